@@ -1,0 +1,36 @@
+-- The records that the checker judges so far: tours, and bounds with no negative reduced cost.
+use Rattle.std.specs.Prelude.{ℕ, Bool, true, false, ◌&&◌, ℤ, pos, int_le, List, [], ◌∷◌}
+use Rattle.std.specs.List.{list_all}
+use Rattle.wrp_sums.specs.Duality.{reduced_cost}
+use Rattle.wrp_town.specs.declared.town.Town.{Town}
+use Rattle.wrp_town.specs.Arcs.{legal_arcs}
+use Rattle.wrp_proof.specs.declared.record.Record.{Record}
+use Rattle.wrp_proof.specs.declared.record.Record.TheVariants.{Tour, Conn, Odd, Round, Kc, Bound, Empty, Apart, Point, Blind, Split, Labels}
+use Rattle.wrp_proof.specs.Nodes.{Standing, start, after, node_at, program}
+
+-- no legal arc has a negative reduced cost
+abbrev pub has_plain_costs : Town → Standing → ℕ → ℕ → List (ℕ × ℕ) → Bool
+has_plain_costs town s node den mult = list_all (λ arc. int_le (pos 0) (reduced_cost (program town s.rows (node_at town s node)) den mult arc)) (legal_arcs town)
+
+abbrev pub is_judged : Town → Standing → Record → Bool
+is_judged town s (Tour cost steps) = true
+is_judged town s (Conn r1 r2 set) = false
+is_judged town s (Odd set) = false
+is_judged town s (Round divisor mult) = false
+is_judged town s (Kc k of) = false
+is_judged town s (Bound node den mult) = has_plain_costs town s node den mult
+is_judged town s (Empty node mult) = false
+is_judged town s (Apart node r1 r2 set) = false
+is_judged town s (Point node den numbers) = false
+is_judged town s (Blind node) = false
+is_judged town s (Split node arc k) = false
+is_judged town s (Labels labels streets) = false
+
+-- each of these records is judged, after those that stand and those before it
+abbrev pub go_on_judged : Town → Standing → List Record → Bool
+go_on_judged town s [] = true
+go_on_judged town s (item ∷ items) = is_judged town s item && go_on_judged town (after town s item) items
+
+-- each record of the list is judged
+abbrev pub are_judged : Town → List Record → Bool
+are_judged town records = go_on_judged town (start town) records

@@ -1,0 +1,5 @@
+-- Laws of whole numbers and of their sums, for the crates above.
+pub mod Integers
+pub mod SumsOver
+pub mod RoundedUp
+pub mod WeakDuality

@@ -1,0 +1,45 @@
+-- A linear program over arcs, the value of a choice of multipliers of its rows, and its solutions.
+use Rattle.std.specs.Prelude.{ℕ, ◌*◌, ◌≤◌, cond, int_lt, ℤ, pos, ◌+ℤ◌, ◌-ℤ◌, ◌*ℤ◌, ◌≤ℤ◌, List, Contains}
+use Rattle.wrp_sums.specs.Sums.{sum_over}
+
+-- least cost of numbers of arcs, each from lo to hi, where each row's sum is at least its side
+pub record Program : Type 0 where
+  -- the arcs that may be used
+  pub arcs : List ℕ
+  -- the coefficient of a row at an arc
+  pub coef : ℕ → ℕ → ℤ
+  -- the right side of a row
+  pub side : ℕ → ℤ
+  -- the cost of one use of an arc
+  pub cost : ℕ → ℕ
+  -- the least and the greatest number of uses of an arc
+  pub lo : ℕ → ℕ
+  pub hi : ℕ → ℕ
+
+-- the least of z x over lo ≤ x ≤ hi
+abbrev pub least_term : ℤ → ℕ → ℕ → ℤ
+least_term z lo hi = z *ℤ pos (cond (int_lt z (pos 0)) hi lo)
+
+-- what is left of d times the cost of arc a after its share of each row, times the row's multiplier
+abbrev pub reduced_cost : Program → ℕ → List (ℕ × ℕ) → ℕ → ℤ
+reduced_cost p d mult a = pos (d * p.cost a) -ℤ sum_over (λ q. pos q.1 *ℤ p.coef q.0 a) mult
+
+-- the bound that multipliers give, by row and number, for d times the cost
+abbrev pub dual_value : Program → ℕ → List (ℕ × ℕ) → ℤ
+dual_value p d mult =
+    sum_over (λ q. pos q.1 *ℤ p.side q.0) mult
+    +ℤ sum_over (λ a. least_term (reduced_cost p d mult a) (p.lo a) (p.hi a)) p.arcs
+
+-- the left side of row r at the numbers x
+abbrev pub row_sum : Program → ℕ → (ℕ → ℕ) → ℤ
+row_sum p r x = sum_over (λ a. p.coef r a *ℤ pos (x a)) p.arcs
+
+-- the cost of the numbers x
+abbrev pub cost_sum : Program → (ℕ → ℕ) → ℤ
+cost_sum p x = sum_over (λ a. pos (p.cost a * x a)) p.arcs
+
+-- the numbers x over the denominator e keep each arc's range and each row that has a multiplier
+pub record IsSolution (p : Program) (e : ℕ) (mult : List (ℕ × ℕ)) (x : ℕ → ℕ) : Type 0 where
+  pub at_least : (a : ℕ) → Contains p.arcs a → p.lo a * e ≤ x a
+  pub at_most : (a : ℕ) → Contains p.arcs a → x a ≤ p.hi a * e
+  pub meets : (q : ℕ × ℕ) → Contains mult q → (pos e *ℤ p.side q.0) ≤ℤ row_sum p q.0 x

@@ -1,0 +1,4 @@
+pub mod Names
+pub mod Streets
+pub mod Arcs
+pub mod Walks
