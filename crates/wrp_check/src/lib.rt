@@ -1,0 +1,6 @@
+//! The checker: reads a proof line by line and says whether it proves its end.
+//!
+//! It holds one line and its own numbers, never the whole proof.
+#![tactic(auto)]
+
+mod lines;

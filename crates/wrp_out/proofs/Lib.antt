@@ -1,0 +1,3 @@
+pub mod CountFacts
+mod ReadFacts
+pub mod ToldFacts

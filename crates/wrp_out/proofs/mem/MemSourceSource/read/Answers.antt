@@ -1,0 +1,14 @@
+use Rattle.std.proofs.Common.{◌≤◌, ◌∙◌, Some, length, drop, ap, sym, arith}
+use Rattle.std.proofs.lemmas.List.{take_rest, drop-drop}
+use Rattle.wrp_out.specs.Faulty.{Reading}
+use Rattle.wrp_out.proofs.ReadFacts.{front_and_rest}
+use Rattle.wrp_out.proofs.mem.MemSourceSource.read.Goals as goal
+
+pub returns-clause-took : goal.returns-clause-took
+returns-clause-took c =
+    let left = drop c.self.inside.at c.deref-2.result.now in
+    let count = rw take_rest at c.copy_front-count.ensures.count in
+    let copied = rw take_rest at c.copy_front-count.ensures.copied in
+    let fits : c.copy_front-count.result ≤ length left = omega arith in
+    let whole = front_and_rest left c.args.into.now _ c.copy_front-count.result fits copied in
+    ap Some (ap (λ (s : Reading). s.left) (sym c.self.view_is) ∙ (rw (c.deref-2.ensures.value, drop-drop) at whole))
