@@ -56,9 +56,13 @@ impl Source for MemSource {
         ensures fails { IsErr result ↔ FailsNext self.old.fail self.old.calls }
         ensures most { IfOk result (λ count. count ≡ min (length into.old) (length self.old.left)) }
         ensures ok { IfOk result (λ count. self.new ≡ record self.old {
-            left = drop count self.old.left; calls = one_more self.old.calls }) }
+          left = drop count self.old.left;
+          calls = one_more self.old.calls;
+        }) }
         ensures err { OnErr result (self.new ≡ record self.old {
-            calls = one_more self.old.calls; faults = one_more self.old.faults }) }
+          calls = one_more self.old.calls;
+          faults = one_more self.old.faults;
+        }) }
 
         // What any source ensures.
         ensures fits { IfOk result (λ count. count ≤ length into.old) }
@@ -140,13 +144,20 @@ impl Sink for MemSink {
         ensures fails { FailsNext self.old.fail self.old.calls → IsErr result }
         ensures whole { IfOk result (λ count. count ≡ length bytes.now) }
         ensures ok { OnOk result (self.new ≡ record self.old {
-            written = self.old.written ++ bytes.now; calls = one_more self.old.calls }) }
+          written = self.old.written ++ bytes.now;
+          calls = one_more self.old.calls;
+        }) }
 
         // Another call fails only where a growth finds no memory.
         ensures named { FailsNext self.old.fail self.old.calls → self.new ≡ record self.old {
-            calls = one_more self.old.calls; faults = one_more self.old.faults } }
+          calls = one_more self.old.calls;
+          faults = one_more self.old.faults;
+        } }
         ensures starved { ¬ FailsNext self.old.fail self.old.calls → OnErr result (self.new ≡ record self.old {
-            calls = one_more self.old.calls; faults = one_more self.old.faults; starved = one_more self.old.starved }) }
+          calls = one_more self.old.calls;
+          faults = one_more self.old.faults;
+          starved = one_more self.old.starved;
+        }) }
 
         // What any sink ensures.
         ensures gained { IfOk result (λ count. Gained (Some self.old.written) (Some self.new.written) (take count bytes.now)) }

@@ -3,8 +3,8 @@ ghost use Rattle.std.specs.Prelude.{IfOk};
 ghost use Rattle.wrp_out.specs.Told.{Tells};
 
 use crate::{
-    Failed, FileSink, FileSource, MemSink, MemSource, Sink, Source, SteadySink, SteadySource,
-    StdoutSink, write_all,
+    Failed, FileSink, FileSource, MemSink, MemSource, Sink, Source, StdoutSink, SteadySink,
+    SteadySource, write_all,
 };
 use std::alloc::{AllocError, Global};
 use std::fs;
@@ -35,7 +35,7 @@ fn read_whole<S: Source>(alloc: Global, source: &mut S) -> Result<Vec<u8>, Refus
 {
     let mut whole = Vec::new(alloc);
     let mut piece = [0; 3];
-    while whole.len() < 100 {
+    'reads: while whole.len() < 100 {
         let count = source.read(&mut piece)?;
         if count == 0 {
             return Ok(whole);

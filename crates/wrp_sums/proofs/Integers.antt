@@ -4,15 +4,18 @@
 --     casts       these, and numbers that went to bits and are read again
 --     tests       these, and the tests of an `if`
 --     spread      for `simp`: multiplies out
-use Rattle.std.proofs.Common.{◌≡◌, ℕ, zero, suc, ◌+◌, ◌*◌, ◌≤◌, ◌<◌, ℤ, pos, negsuc, ◌+ℤ◌, ◌-ℤ◌, ◌*ℤ◌, neg_ℤ, ◌≤ℤ◌, ◌<ℤ◌, unsigned_abs, ap, refl, sym, ◌∙◌, arith, mul-le-mul_left, mul-le-mul}
+use Rattle.std.proofs.Common.{◌≡◌, ℕ, ◌+◌, ◌*◌, ◌≤◌, ◌<◌, ℤ, pos, negsuc, ◌+ℤ◌, ◌-ℤ◌, ◌*ℤ◌, neg_ℤ, ◌≤ℤ◌, unsigned_abs, ap, refl, sym, ◌∙◌, arith, mul-le-mul_left, mul-le-mul}
 use Rattle.std.proofs.Math.Nat.{le_of_mul-le-mul_left}
 use Rattle.std.proofs.lemmas.Int.{ints, unsigned_abs-mul}
 use Rattle.std.proofs.Math.IntN.{*ℤ_comm}
 pub use borrow.Author.Differences.{up, down, same_out, lt_out, le_out, same_in, below_in, at_most_in, sum_is_lem, neg_is, product_is, fits_out, fits_in, abs_is, back_is, small_is, lt-true, lt-false, le-true, le-false}
 
 pub ruleset linear = (same_out, lt_out, le_out, same_in, below_in, at_most_in, sum_is_lem, neg_is)
+
 pub ruleset sized = (linear, fits_out, fits_in, abs_is)
+
 pub ruleset casts = (sized, back_is, small_is)
+
 pub ruleset tests = (casts, lt-true, lt-false, le-true, le-false)
 
 -- ---- products
@@ -25,23 +28,35 @@ pub +ℤ-*ℤ : (a b c : ℤ) → (a +ℤ b) *ℤ c ≡ a *ℤ c +ℤ b *ℤ c
 
 pub *ℤ-neg_ℤ : (a b : ℤ) → a *ℤ neg_ℤ b ≡ neg_ℤ (a *ℤ b)
 *ℤ-neg_ℤ a b =
-    omega (arith, ints,
-      ap (λ (n : ℕ). up a * n) (neg_is b).0, ap (λ (n : ℕ). up a * n) (neg_is b).1,
-      ap (λ (n : ℕ). down a * n) (neg_is b).0, ap (λ (n : ℕ). down a * n) (neg_is b).1)
+    omega (
+      arith,
+      ints,
+      ap (λ (n : ℕ). up a * n) (neg_is b).0,
+      ap (λ (n : ℕ). up a * n) (neg_is b).1,
+      ap (λ (n : ℕ). down a * n) (neg_is b).0,
+      ap (λ (n : ℕ). down a * n) (neg_is b).1,
+    )
 
 pub neg_ℤ-*ℤ : (a b : ℤ) → neg_ℤ a *ℤ b ≡ neg_ℤ (a *ℤ b)
 neg_ℤ-*ℤ a b = omega (arith, linear, *ℤ_comm (neg_ℤ a) b, *ℤ_comm a b, *ℤ-neg_ℤ b a)
 
-pub *ℤ--ℤ : (a b c : ℤ) → a *ℤ (b -ℤ c) ≡ a *ℤ b -ℤ a *ℤ c
-*ℤ--ℤ a b c = omega (arith, linear, *ℤ-+ℤ a b (neg_ℤ c), *ℤ-neg_ℤ a c)
+pub *ℤ_minus : (a b c : ℤ) → a *ℤ (b -ℤ c) ≡ a *ℤ b -ℤ a *ℤ c
+*ℤ_minus a b c = omega (arith, linear, *ℤ-+ℤ a b (neg_ℤ c), *ℤ-neg_ℤ a c)
 
 pub *ℤ_assoc : (a b c : ℤ) → (a *ℤ b) *ℤ c ≡ a *ℤ (b *ℤ c)
 *ℤ_assoc a b c =
-    omega (arith, ints,
-      ap (λ (n : ℕ). n * up c) (product_is a b).0, ap (λ (n : ℕ). n * down c) (product_is a b).0,
-      ap (λ (n : ℕ). n * up c) (product_is a b).1, ap (λ (n : ℕ). n * down c) (product_is a b).1,
-      ap (λ (n : ℕ). up a * n) (product_is b c).0, ap (λ (n : ℕ). down a * n) (product_is b c).0,
-      ap (λ (n : ℕ). up a * n) (product_is b c).1, ap (λ (n : ℕ). down a * n) (product_is b c).1)
+    omega (
+      arith,
+      ints,
+      ap (λ (n : ℕ). n * up c) (product_is a b).0,
+      ap (λ (n : ℕ). n * down c) (product_is a b).0,
+      ap (λ (n : ℕ). n * up c) (product_is a b).1,
+      ap (λ (n : ℕ). n * down c) (product_is a b).1,
+      ap (λ (n : ℕ). up a * n) (product_is b c).0,
+      ap (λ (n : ℕ). down a * n) (product_is b c).0,
+      ap (λ (n : ℕ). up a * n) (product_is b c).1,
+      ap (λ (n : ℕ). down a * n) (product_is b c).1,
+    )
 
 -- the second factor first
 pub *ℤ_left_comm : (a b c : ℤ) → a *ℤ (b *ℤ c) ≡ b *ℤ (a *ℤ c)

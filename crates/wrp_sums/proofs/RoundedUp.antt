@@ -1,5 +1,5 @@
 -- Laws of quotients rounded up.
-use Rattle.std.proofs.Common.{◌≡◌, ℕ, zero, suc, ◌+◌, ◌-◌, ◌*◌, ◌/◌, ◌≤◌, ◌<◌, ℤ, pos, negsuc, ◌+ℤ◌, ◌-ℤ◌, ◌*ℤ◌, neg_ℤ, ◌≤ℤ◌, ◌<ℤ◌, arith}
+use Rattle.std.proofs.Common.{◌≡◌, ℕ, suc, ◌/◌, ◌<◌, ℤ, pos, negsuc, ◌+ℤ◌, ◌*ℤ◌, ◌≤ℤ◌, ◌<ℤ◌, arith}
 use Rattle.std.proofs.lemmas.Int.{ints, by_lt_z}
 use Rattle.wrp_sums.specs.Rounding.{ceil_div, IsCeilDiv}
 use Rattle.wrp_sums.proofs.Integers.{linear, *ℤ-neg_ℤ, *ℤ-+ℤ, scale_le, at_most_antisym, at_most_trans}
@@ -20,12 +20,12 @@ IsCeilDiv-from_brackets a b q h =
     record {
       covers = h.reaches;
       least = λ r reached.
-        by_lt_z r q
+          by_lt_z r q
           (λ below.
-            let step : (r +ℤ pos 1) ≤ℤ q = omega (arith, linear) in
-            let scaled = scale_le b (r +ℤ pos 1) q step in
-            absurd (omega (arith, ints, *ℤ-+ℤ (pos b) r (pos 1))))
-          (λ enough. enough)
+          let step : (r +ℤ pos 1) ≤ℤ q = omega (arith, linear) in
+          let scaled = scale_le b (r +ℤ pos 1) q step in
+          absurd (omega (arith, ints, *ℤ-+ℤ (pos b) r (pos 1))))
+          (λ enough. enough);
     }
 
 -- `ceil_div` rounds up

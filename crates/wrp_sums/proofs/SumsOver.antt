@@ -1,12 +1,12 @@
 -- Laws of `sum_over`. A premise on the members alone is `(x : X) → Contains xs x → ..`, at a call `λ x inside. ..`; from an `All P xs` it is `λ x inside. All-contains P xs x all inside`.
-use Rattle.std.proofs.Common.{◌≡◌, ℕ, zero, suc, ◌+◌, ◌*◌, ◌≤◌, ◌<◌, Bool, true, false, cond, not, ◌==◌, ◌≢◌, AllPairs, ℤ, pos, negsuc, ◌+ℤ◌, ◌-ℤ◌, ◌*ℤ◌, neg_ℤ, ◌≤ℤ◌, unsigned_abs, List, [], ◌∷◌, ◌++◌, map, length, get_or, take, drop, filter, Contains, sum_by, count_by, ap, refl, sym, ◌∙◌, subst, ⊎_elim, arith, add-one, eqb→eq, eq-eqb, length-append, take-append-drop}
+use Rattle.std.proofs.Common.{◌≡◌, ℕ, zero, suc, ◌+◌, ◌*◌, ◌≤◌, ◌<◌, Bool, true, false, cond, ◌==◌, ◌≢◌, AllPairs, ℤ, pos, ◌+ℤ◌, ◌-ℤ◌, ◌*ℤ◌, neg_ℤ, ◌≤ℤ◌, unsigned_abs, List, [], ◌∷◌, ◌++◌, map, length, get_or, take, drop, filter, Contains, sum_by, count_by, ap, refl, sym, ◌∙◌, subst, arith, eq-eqb, take-append-drop}
 use Rattle.std.specs.List.{AllByRecursion}
 use Rattle.std.proofs.lemmas.Bool.{eqb-true, eqb-false, ne_eqb, false_from_ne_true, true≢false}
 use Rattle.std.proofs.lemmas.List.{take_more}
 use Rattle.std.proofs.lemmas.List.Sums.{sum_by-cons}
 use Rattle.std.proofs.lemmas.Int.{ints}
 use Rattle.wrp_sums.specs.Sums.{sum_over}
-use Rattle.wrp_sums.proofs.Integers.{linear, sized, *ℤ-+ℤ, *ℤ-neg_ℤ, pos-≤ℤ, +ℤ-*ℤ}
+use Rattle.wrp_sums.proofs.Integers.{linear, sized, *ℤ-+ℤ, +ℤ-*ℤ}
 
 -- ---- members
 
@@ -45,9 +45,9 @@ module _ {X : Type 0} where
   sum_over-neg_ℤ f [] = refl
   sum_over-neg_ℤ f (x ∷ xs) = omega (arith, linear, sum_over-neg_ℤ f xs)
 
-  pub sum_over--ℤ : (f g : X → ℤ) (xs : List X) → sum_over (λ x. f x -ℤ g x) xs ≡ sum_over f xs -ℤ sum_over g xs
-  sum_over--ℤ f g [] = refl
-  sum_over--ℤ f g (x ∷ xs) = omega (arith, linear, sum_over--ℤ f g xs)
+  pub sum_over_minus : (f g : X → ℤ) (xs : List X) → sum_over (λ x. f x -ℤ g x) xs ≡ sum_over f xs -ℤ sum_over g xs
+  sum_over_minus f g [] = refl
+  sum_over_minus f g (x ∷ xs) = omega (arith, linear, sum_over_minus f g xs)
 
   pub sum_over-zero : (xs : List X) → sum_over (λ x. pos 0) xs ≡ pos 0
   sum_over-zero [] = refl

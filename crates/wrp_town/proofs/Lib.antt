@@ -1,1 +1,4 @@
+pub mod DemandLaws
 pub mod ListEquality
+pub mod TownLaws
+pub mod WalkLaws

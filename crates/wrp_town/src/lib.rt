@@ -6,10 +6,14 @@
 
 mod list;
 mod name;
+mod size;
 mod street;
 mod town;
+mod walk;
 
 pub use list::List;
 pub use name::Name;
+pub use size::{demand_count, small};
 pub use street::{Need, Step, Street};
 pub use town::Town;
+pub use walk::{is_closed_walk, is_tour, leads, serves, serves_all, walk_cost};

@@ -112,7 +112,7 @@ mod tests {
     #[derive(Debug, Drop, Clone, PartialEq, Eq)]
     enum Entry {
         Junctions { junctions: List<u32>, node: u64 },
-        Parts { parts: List<u32> },
+        Weights { weights: List<(u32, u64)> },
         End,
     }
 

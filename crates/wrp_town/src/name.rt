@@ -156,6 +156,12 @@ mod tests {
         name.clone()
     }
 
+    fn is_same_place(a: &Place, b: &Place) -> bool
+        ensures { IsTrue result ↔ (a.now ≡ b.now) }
+    {
+        a == b
+    }
+
     fn copy_of_place(place: &Place) -> Result<Place, AllocError>
         ensures { IfOk result (λ copy. copy ≡ place.now) }
     {

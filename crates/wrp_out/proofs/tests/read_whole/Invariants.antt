@@ -2,8 +2,8 @@ use Rattle.std.proofs.Common.{◌-◌, vec_len}
 use Rattle.wrp_out.specs.Told.{Took}
 use Rattle.wrp_out.proofs.tests.read_whole.Given as goal
 
-abbrev pub invariant-loop-whole : goal.invariant-loop-whole
-invariant-loop-whole g l = Took (g.S.Source.left l.initial.source) (g.S.Source.left l.source) l.whole.items
+abbrev pub invariant-reads : goal.invariant-reads
+invariant-reads g l = Took (g.S.Source.left l.initial.source) (g.S.Source.left l.source) l.whole.items
 
-abbrev pub decreases-loop-whole : goal.decreases-loop-whole
-decreases-loop-whole g l = 100 - vec_len l.whole
+abbrev pub decreases-reads : goal.decreases-reads
+decreases-reads g l = 100 - vec_len l.whole

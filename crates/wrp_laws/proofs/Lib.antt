@@ -1,0 +1,7 @@
+-- Laws of tours and of the records of a proof, for the crates above.
+pub mod Counts
+pub mod BaseRows
+pub mod PlainBounds
+pub mod PlainLists
+pub mod PlainEnds
+pub mod Example

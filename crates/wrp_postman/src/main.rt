@@ -1,0 +1,6 @@
+//! The program: solves, resumes and checks inspection tours of streets.
+#![tactic(auto)]
+
+mod input;
+
+fn main() {}

@@ -1,0 +1,7 @@
+mod Enough
+mod Taking
+mod FieldAt
+mod Trimming
+pub mod DigitSteps
+mod SixFields
+pub mod ReadBack

@@ -1,0 +1,4 @@
+pub mod Streams
+pub mod Fields
+pub mod Headers
+pub mod Lines
