@@ -1,7 +1,8 @@
 -- Told bytes over several calls in a row.
-use Rattle.std.proofs.Common.{ℕ, ◌+◌, List, [], ◌++◌, take, drop, Option, None, Some, refl, append_assoc, take-add}
-use Rattle.std.proofs.lemmas.List.{append-nil}
-use Rattle.wrp_out.specs.Told.{Tells, Took, Gained}
+use Rattle.std.proofs.Common.{◌≡◌, ℕ, zero, suc, ◌+◌, List, [], ◌∷◌, ◌++◌, length, ap, arith, take, drop, Option, None, Some, refl, append_assoc, take-add}
+use Rattle.std.proofs.Math.Seq.{take-append-add}
+use Rattle.std.proofs.lemmas.List.{append-nil, take_all}
+use Rattle.wrp_out.specs.Told.{Tells, Took, Gained, GainedPrefix}
 
 -- no byte was taken
 pub took_nothing : (told : Option (List ℕ)) → Took told told []
@@ -35,3 +36,21 @@ gained_then (Some held) b c xs ys one two = rw (← append_assoc) (rw one at two
 -- the next part of a piece after its first part
 pub gained_more : (a b c : Option (List ℕ)) (bytes : List ℕ) (done more : ℕ) → Gained a b (take done bytes) → Gained b c (take more (drop done bytes)) → Gained a c (take (done + more) bytes)
 gained_more a b c bytes done more one two = rw take-add (gained_then a b c _ _ one two)
+
+-- a whole piece is a prefix of itself
+pub gained_whole : (a b : Option (List ℕ)) (xs : List ℕ) → Gained a b xs → GainedPrefix a b xs
+gained_whole a b xs all = (length xs, rw (take_all (length xs) xs (omega arith)) all)
+
+-- a piece and some first bytes of the next are first bytes of both
+pub gained_prefix_then : (a b c : Option (List ℕ)) (xs ys : List ℕ) → Gained a b xs → GainedPrefix b c ys → GainedPrefix a c (xs ++ ys)
+gained_prefix_then a b c xs ys one (count, two) = (length xs + count, rw take-append-add (gained_then a b c xs (take count ys) one two))
+
+-- the first bytes of a list, as first bytes of a longer one
+prefix_of : (n : ℕ) (xs ys : List ℕ) → (m : ℕ) × (take n xs ≡ take m (xs ++ ys))
+prefix_of zero xs ys = (zero, refl)
+prefix_of (suc n) [] ys = (zero, refl)
+prefix_of (suc n) (x ∷ xs) ys = let shorter = prefix_of n xs ys in (suc shorter.0, ap (λ (l : List ℕ). x ∷ l) shorter.1)
+
+-- some first bytes of a piece are first bytes of a longer one
+pub gained_prefix_of : (a b : Option (List ℕ)) (xs ys : List ℕ) → GainedPrefix a b xs → GainedPrefix a b (xs ++ ys)
+gained_prefix_of a b xs ys (count, part) = let longer = prefix_of count xs ys in (longer.0, rw (← longer.1) part)

@@ -11,9 +11,12 @@ use std::rt::Files;
 
 /// The bytes of a file, which is opened at the first read. Contracts see the count of its faults.
 #[derive(Drop)]
+#[derive_where(Debug)]
 pub struct FileSource<'a, R: Files> {
+    #[derive_where(skip)]
     files: &'a R,
     name: &'a str,
+    #[derive_where(skip)]
     file: Option<R::File>,
     faults: u64,
 }
@@ -76,9 +79,12 @@ fn read_from<R: Files>(
 
 /// A file, which is created or emptied at the first write. Contracts see its counts.
 #[derive(Drop)]
+#[derive_where(Debug)]
 pub struct FileSink<'a, R: Files> {
+    #[derive_where(skip)]
     files: &'a R,
     name: &'a str,
+    #[derive_where(skip)]
     file: Option<R::File>,
     faults: u64,
     empties: u64,
@@ -140,7 +146,9 @@ fn write_to<R: Files>(
 
 /// Standard output, which holds nothing back. Contracts see its counts.
 #[derive(Drop)]
+#[derive_where(Debug)]
 pub struct StdoutSink<'a, R: Print> {
+    #[derive_where(skip)]
     output: &'a R,
     faults: u64,
     empties: u64,

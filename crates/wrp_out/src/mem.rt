@@ -165,9 +165,9 @@ impl Sink for MemSink {
         ensures failed { OnErr result (Rose self.old.faults self.new.faults) }
         ensures never_falls { NeverFalls self.old.faults self.new.faults }
     {
-        let fails = is_named(&self.fail, self.calls);
+        let named = is_named(&self.fail, self.calls);
         self.calls = self.calls.saturating_add(1);
-        if fails {
+        if named {
             self.faults = self.faults.saturating_add(1);
             return Err(Failed);
         }

@@ -6,3 +6,6 @@ pub mod Lists
 pub mod Lines
 pub mod Proofs
 pub mod Judged
+pub mod Parts
+pub mod Shapes
+pub mod Views

@@ -132,7 +132,7 @@ unfolding records_from
 records_left-more s xs p between e =
     let shorter = shorter_next s xs p between e in
     let follows = follows_next s [] [] xs p e in
-    rw add-one (left-some (length xs) (next_record default_config s [] [] xs) p e
+    rw (add-one (length xs)) (left-some (length xs) (next_record default_config s [] [] xs) p e
     ∙ ap (λ (rest : List (List (List ℕ))). p.0 ∷ rest)
     (records_from-enough (length xs) (length p.2 + 1) p.1 p.2 follows.between (omega arith) (omega arith)))
 

@@ -5,3 +5,6 @@ mod Trimming
 pub mod DigitSteps
 mod SixFields
 pub mod ReadBack
+mod Writing
+pub mod Laws
+pub mod Costs

@@ -15,11 +15,11 @@ use Rattle.wrp_records.specs.Lines.{after_commas, doubled, field_text, is_line, 
 use Rattle.wrp_records.specs.Streams.{records_left, records_of}
 use Rattle.wrp_records.proofs.Enough.{records_left-more, records_left-none}
 
-both_left : (a b : Bool) → (a && b) ≡ true → a ≡ true
+pub both_left : (a b : Bool) → (a && b) ≡ true → a ≡ true
 both_left true b e = refl
 both_left false b e = e
 
-both_right : (a b : Bool) → (a && b) ≡ true → b ≡ true
+pub both_right : (a b : Bool) → (a && b) ≡ true → b ≡ true
 both_right true b e = e
 both_right false b e = cc e
 

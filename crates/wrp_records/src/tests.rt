@@ -1,6 +1,8 @@
 // What no clause says: that the definitions read bytes as a table's author means them.
 
-use crate::{ByteRecord, Records, field_count, is_header, is_text, read_cost, text_at, trim};
+use crate::{
+    ByteRecord, Records, field_count, is_header, is_text, push_line, read_cost, text_at, trim,
+};
 use std::alloc::{AllocError, Global};
 use std::test::Fail;
 
@@ -87,4 +89,13 @@ fn reads_costs(rt: HostRuntime) {
     assert_eq!(rt; read_cost(b"00000000001"), None, "eleven digits");
     assert_eq!(rt; read_cost(b"1 2"), None, "a blank inside");
     assert_eq!(rt; read_cost(b"--"), None, "two dashes");
+}
+
+#[test]
+fn writes_lines(rt: HostRuntime) -> Result<(), Fail> {
+    let mut out = Vec::new(rt.alloc());
+    push_line(&mut out, &[b"a,\"b", b"", b" c "])?;
+    push_line(&mut out, &[b"d"])?;
+    assert_eq!(rt; out.as_slice(), b"\"a,\"\"b\",, c \nd\n".as_slice());
+    Ok(())
 }

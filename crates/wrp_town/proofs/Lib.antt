@@ -1,4 +1,5 @@
 pub mod DemandLaws
 pub mod ListEquality
+pub mod ServiceLaws
 pub mod TownLaws
 pub mod WalkLaws

@@ -1,15 +1,15 @@
 -- What every town keeps, drawn from its ghost field, and what that says of its arcs.
-use Rattle.std.proofs.Common.{◌≡◌, ℕ, suc, zero, ◌+◌, ◌*◌, ◌/◌, ◌%◌, ◌<◌, ◌≤◌, Bool, true, false, cond, ◌&&◌, ◌==◌, List, [], ◌∷◌, length, Option, Some, None, is_some, ap, refl, sym, ◌∙◌, subst, arith}
-use Rattle.std.specs.Prelude.{IfSome, nat_le, nat_lt, if◌then◌else◌, slice_get}
+use Rattle.std.proofs.Common.{◌≡◌, ℕ, suc, zero, ◌+◌, ◌*◌, ◌/◌, ◌%◌, ◌<◌, ◌≤◌, Bool, true, false, cond, ◌==◌, List, [], ◌∷◌, length, Option, Some, None, is_some, ap, refl, sym, ◌∙◌, subst, arith}
+use Rattle.std.specs.Prelude.{IfSome, if◌then◌else◌, slice_get}
 use Rattle.std.specs.List.{list_all}
-use Rattle.std.specs.Option.{unwrap_or, option_and_then}
+use Rattle.std.specs.Option.{unwrap_or}
 use Rattle.std.proofs.lemmas.Bool.{and_parts, ltb-true, leb-true, false≢true}
 use Rattle.std.proofs.lemmas.Option.{option_and_then_some, slice_get_within, same_Some, none-some}
 use Rattle.wrp_town.specs.declared.street.Street.{Street}
 use Rattle.wrp_town.specs.declared.street.Step.{Step}
 use Rattle.wrp_town.specs.declared.town.Town.{Town}
 use Rattle.wrp_town.specs.Names.{is_name}
-use Rattle.wrp_town.specs.Streets.{is_cost, is_street, demands_from}
+use Rattle.wrp_town.specs.Streets.{is_cost, is_street}
 use Rattle.wrp_town.specs.Arcs.{street_of, cost_of, tail_of, head_of, is_legal, cost_or_zero, demands, arc_of}
 
 -- ---- lists and options

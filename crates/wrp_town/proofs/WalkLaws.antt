@@ -1,13 +1,13 @@
 -- Laws of walks: of steps put one after another, of what they serve, cost and count.
-use Rattle.std.proofs.Common.{◌≡◌, ℕ, ◌+◌, ◌*◌, ◌<◌, ◌≤◌, Bool, true, false, cond, ◌&&◌, ◌||◌, ◌==◌, List, [], ◌∷◌, ◌++◌, length, All, Contains, ap, refl, sym, ◌∙◌, subst, inl, inr, arith, eq-eqb}
-use Rattle.std.specs.List.{list_all, list_any, sum_by, count_by}
+use Rattle.std.proofs.Common.{◌≡◌, ℕ, ◌+◌, ◌*◌, ◌≤◌, Bool, true, false, cond, ◌&&◌, ◌||◌, ◌==◌, List, [], ◌∷◌, ◌++◌, length, ap, refl, sym, ◌∙◌, subst, inl, inr, eq-eqb}
+use Rattle.std.specs.List.{list_all}
 use Rattle.std.proofs.Math.Bool.{and_assoc}
-use Rattle.std.proofs.lemmas.Bool.{and_parts, and_from, eqb-true, false≢true, cases_eq, ne_eqb}
+use Rattle.std.proofs.lemmas.Bool.{and_parts, and_from, eqb-true, cases_eq, ne_eqb}
 use Rattle.std.proofs.lemmas.List.Folds.{list_all-append, list_any-append}
 use Rattle.std.proofs.lemmas.List.Sums.{sum_by-cons, sum_by-append, sum_by-le}
 use Rattle.wrp_town.specs.declared.street.Step.{Step}
 use Rattle.wrp_town.specs.declared.town.Town.{Town}
-use Rattle.wrp_town.specs.Arcs.{is_legal, tail_of, head_of, cost_or_zero, arc_of, demands, has_arc}
+use Rattle.wrp_town.specs.Arcs.{is_legal, tail_of, head_of, cost_or_zero, arc_of, has_arc}
 use Rattle.wrp_town.specs.Walks.{leads, is_closed_walk, serves, serves_all, is_tour, walk_cost, count_of}
 use Rattle.wrp_town.proofs.TownLaws.{cost_or_zero-at_most}
 
@@ -61,7 +61,7 @@ leads-split town i (step ∷ xs) ys j lead =
     let via = leads-split town (head_of town (arc_of step)) xs ys j by.goes_on in
     record {
       before = leads-from_LeadsBy town i step xs _ (record { legal = by.legal; begins = by.begins; goes_on = via.before });
-      after = via.after
+      after = via.after;
     }
 
 -- one step more

@@ -155,3 +155,46 @@ pub fn walk_cost(town: &Town, steps: &[Step]) -> Option<u64>
     }
     Some(total)
 }
+
+#[cfg(test)]
+mod tests {
+    use super::*;
+    use crate::list::List;
+    use crate::size::{demand_count, small};
+    use std::test::Fail;
+
+    const STEPS: [Step; 2] = [
+        Step {
+            street: 3,
+            back: false,
+        },
+        Step {
+            street: 0,
+            back: true,
+        },
+    ];
+
+    #[test]
+    fn steps_serve_by_their_arcs(rt: HostRuntime) -> Result<(), Fail> {
+        assert_eq!(rt; STEPS[0].arc(), 6);
+        assert_eq!(rt; STEPS[1].arc(), 1);
+        assert!(rt; serves(STEPS.as_slice(), [0, 1].as_slice()));
+        assert!(rt; !serves(STEPS.as_slice(), [0].as_slice()));
+        Ok(())
+    }
+
+    #[test]
+    fn no_steps_are_a_tour_of_no_streets(rt: HostRuntime) -> Result<(), Fail> {
+        let town = Town {
+            junctions: List::new(rt.alloc()),
+            streets: List::new(rt.alloc()),
+        };
+        assert!(rt; small(&town));
+        assert_eq!(rt; demand_count(&town), 0);
+        assert!(rt; is_tour(&town, [].as_slice()));
+        assert_eq!(rt; walk_cost(&town, [].as_slice()), Some(0));
+        assert!(rt; !is_closed_walk(&town, STEPS.as_slice()));
+        assert_eq!(rt; walk_cost(&town, STEPS.as_slice()), None);
+        Ok(())
+    }
+}

@@ -1,5 +1,4 @@
-use Rattle.std.proofs.Common.{◌≡◌, ◌+◌, length, drop, arith}
-use Rattle.wrp_town.specs.Streets.{demands_at, demands_from}
+use Rattle.std.proofs.Common.{arith}
 use Rattle.wrp_town.proofs.DemandLaws.{length-demands_from-drop_read, length-demands_from-drop_end}
 use Rattle.wrp_town.proofs.size.demand_count.Goals as goal
 
