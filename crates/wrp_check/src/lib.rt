@@ -3,4 +3,7 @@
 //! It holds one line and its own numbers, never the whole proof.
 #![tactic(auto)]
 
+mod check;
 mod lines;
+
+pub use check::CheckFault;

@@ -22,9 +22,10 @@ place_within w bs = prefix_len-le-length (λ x. not (x == w)) bs
 -- the parts, the first of them cut off
 pub first_cut : (bs : List ℕ) → slice_split is_space bs ≡ take (position_or_len is_space bs) bs ∷ parts_of (drop (position_or_len is_space bs) bs)
 first_cut bs = elim (cases_lt (position_or_len is_space bs) (length bs)) [
-    inl lt ↦ let n = position_or_len is_space bs in
+  | inl lt ↦ let n = position_or_len is_space bs in
       let after : drop n bs ≡ get_or bs n 0 ∷ drop (n + 1) bs = rw (add-one n) (drop-cons bs n 0 lt) in
       slice_split_first is_space bs 0 lt ∙ ap (λ rest. take n bs ∷ parts_of rest) (sym after)
   | inr ge ↦ let n : position_or_len is_space bs ≡ length bs = omega (arith, place_within 32 bs) in
       rw (n, take_all (length bs) bs (omega arith), drop_all (length bs) bs (omega arith))
-      (slice_split_none is_space bs (All-from_get_or (λ x. is_space x ≡ false) bs 0 (λ k lt. fails_before_first is_space bs k 0 (omega arith)))) ]
+      (slice_split_none is_space bs (All-from_get_or (λ x. is_space x ≡ false) bs 0 (λ k lt. fails_before_first is_space bs k 0 (omega arith))))
+]

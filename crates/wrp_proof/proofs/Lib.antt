@@ -6,3 +6,4 @@ pub mod Spacing
 pub mod StepLists
 pub mod PairLists
 pub mod LineLaws
+pub mod EndLaws

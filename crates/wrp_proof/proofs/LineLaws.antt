@@ -1,6 +1,6 @@
 -- A line of a tour or of a bound spells the record of its parts, and no other line does.
-use Rattle.std.proofs.Common.{Result, Ok, Err, IfOk, IfErr, subst, arith, false, ◌≡◌, ℕ, ◌+◌, ◌-◌, ◌<◌, ◌≤◌, ◌^◌, Bool, true, cond, ◌&&◌, not, ◌==◌, nat_lt, nat_le, List, [], ◌∷◌, ◌++◌, map, length, get_or, refl, sym, ap, ◌∙◌}
-use Rattle.std.proofs.lemmas.Bool.{both_ways, eqb-false, and_parts, and_from, ltb-true, leb-true}
+use Rattle.std.proofs.Common.{Option, Some, None, ◌≢◌, true, Result, Ok, Err, IfOk, IfErr, subst, arith, false, ◌≡◌, ℕ, ◌+◌, ◌-◌, ◌<◌, ◌≤◌, ◌^◌, Bool, true, cond, ◌&&◌, not, ◌==◌, nat_lt, nat_le, List, [], ◌∷◌, ◌++◌, map, length, get_or, refl, sym, ap, ◌∙◌}
+use Rattle.std.proofs.lemmas.Bool.{both_ways, eqb-false, ne_eqb, false≢true, and_parts, and_from, ltb-true, leb-true}
 use Rattle.std.specs.Fmt.{decimal}
 use Rattle.std.specs.List.{list_all}
 use Rattle.wrp_town.specs.declared.street.Step.{Step}
@@ -13,7 +13,7 @@ use Rattle.wrp_proof.specs.Shapes.{are_tour_parts, tour_of, are_den_parts, are_b
 use Rattle.wrp_proof.specs.declared.views.View.{View}
 use Rattle.wrp_proof.specs.declared.views.ViewFault.{ViewFault}
 use Rattle.wrp_proof.specs.declared.views.ViewFault.TheVariants as faults
-use Rattle.wrp_proof.specs.Views.{record_of, IsLineOf, IsReadAs}
+use Rattle.wrp_proof.specs.Views.{record_of, is_later_letter, is_later, spelled, spelled_by, IsLineOf, IsReadAs}
 use Rattle.wrp_proof.proofs.Written.{number-text, text-number}
 use Rattle.wrp_proof.proofs.WrittenPairs.{number_digits}
 use Rattle.wrp_proof.proofs.Spacing.{is_solid, spread, digits-solid, spread-parts_of, parts_of-spread}
@@ -70,8 +70,8 @@ tour-parts cost steps rest h =
     let number = text-number cost small in
     let parts : parts_of rest ≡ texts = ap parts_of (sym behind) ∙ parts_of-spread texts (and_from (is_solid (decimal cost)) (list_all is_solid (map step_text steps)) (number-solid cost small) each.solid) in
     and_from (is_spaced rest) (are_tour_parts (parts_of rest)) (ap is_spaced (sym behind))
-      (ap are_tour_parts parts ∙ and_from (is_number (decimal cost) && is_count (number_of (decimal cost))) (list_all is_step (map step_text steps))
-        (and_from (is_number (decimal cost)) (is_count (number_of (decimal cost))) number.0 (ap is_count number.1 ∙ rules.0)) each.read)
+    (ap are_tour_parts parts ∙ and_from (is_number (decimal cost) && is_count (number_of (decimal cost))) (list_all is_step (map step_text steps))
+    (and_from (is_number (decimal cost)) (is_count (number_of (decimal cost))) number.0 (ap is_count number.1 ∙ rules.0)) each.read)
 
 -- no other line with the letter of a tour spells a record
 pub line-tour : (item : Record) (rest : List ℕ) → IsLineOf item (116 ∷ rest) → (is_spaced rest && are_tour_parts (parts_of rest)) ≡ true
@@ -140,14 +140,14 @@ bound-parts node den mult rest h =
     let one = text-number node small in
     let two = text-number den low in
     let solid : list_all is_solid texts ≡ true = and_from (is_solid (decimal node)) (list_all is_solid (decimal den ∷ map pair_text mult)) (number-solid node small)
-      (and_from (is_solid (decimal den)) (list_all is_solid (map pair_text mult)) (number-solid den low) each.solid) in
+    (and_from (is_solid (decimal den)) (list_all is_solid (map pair_text mult)) (number-solid den low) each.solid) in
     let parts : parts_of rest ≡ texts = ap parts_of (sym behind) ∙ parts_of-spread texts solid in
     and_from (is_spaced rest) (are_bound_parts (parts_of rest)) (ap is_spaced (sym behind))
-      (ap are_bound_parts parts
-       ∙ and_from (is_number (decimal node) && is_count (number_of (decimal node))) (are_den_parts (decimal den ∷ map pair_text mult))
-         (and_from (is_number (decimal node)) (is_count (number_of (decimal node))) one.0 (ap is_count one.1 ∙ numbers.0))
-         (and_from (is_number (decimal den) && is_from_one (2 ^ 40) (number_of (decimal den))) (are_multiplier_parts (2 ^ 60) (map pair_text mult))
-           (and_from (is_number (decimal den)) (is_from_one (2 ^ 40) (number_of (decimal den))) two.0 (ap (is_from_one (2 ^ 40)) two.1 ∙ numbers.1)) each.read))
+    (ap are_bound_parts parts
+    ∙ and_from (is_number (decimal node) && is_count (number_of (decimal node))) (are_den_parts (decimal den ∷ map pair_text mult))
+    (and_from (is_number (decimal node)) (is_count (number_of (decimal node))) one.0 (ap is_count one.1 ∙ numbers.0))
+    (and_from (is_number (decimal den) && is_from_one (2 ^ 40) (number_of (decimal den))) (are_multiplier_parts (2 ^ 60) (map pair_text mult))
+    (and_from (is_number (decimal den)) (is_from_one (2 ^ 40) (number_of (decimal den))) two.0 (ap (is_from_one (2 ^ 40)) two.1 ∙ numbers.1)) each.read))
 
 -- no other line with the letter of a bound spells a record
 pub line-bound : (item : Record) (rest : List ℕ) → IsLineOf item (98 ∷ rest) → (is_spaced rest && are_bound_parts (parts_of rest)) ≡ true
@@ -183,3 +183,91 @@ bound-found letter rest (Err fault) e h = h
 pub bound-only : (letter : ℕ) (rest : List ℕ) (r : Result View ViewFault) → letter ≡ 98 → IfErr r (λ _. (is_spaced rest && are_bound_parts (parts_of rest)) ≡ false) → IfErr r (λ fault. (item : Record) → IsLineOf item (letter ∷ rest) → fault ≡ faults.Later)
 bound-only letter rest (Ok v) e h = h
 bound-only letter rest (Err fault) e h = λ item line. absurd (both_ways (is_spaced rest && are_bound_parts (parts_of rest)) h (line-bound item rest (subst (λ byte. IsLineOf item (byte ∷ rest)) e line)))
+
+-- ---- what a line spells
+
+spelled_tour : (letter : ℕ) (rest : List ℕ) → letter ≡ 116 → spelled (letter ∷ rest) ≡ spelled_by are_tour_parts tour_of rest
+unfolding spelled
+spelled_tour letter rest e = rw e refl
+
+spelled_bound : (letter : ℕ) (rest : List ℕ) → letter ≡ 98 → spelled (letter ∷ rest) ≡ spelled_by are_bound_parts bound_of rest
+unfolding spelled
+spelled_bound letter rest e = rw e refl
+
+spelled_from : (are_parts : List (List ℕ) → Bool) (read : List (List ℕ) → Record) (rest : List ℕ) (item : Record) → IsReadAs are_parts read rest item → spelled_by are_parts read rest ≡ Some item
+spelled_from are_parts read rest item h = rw (h.spaced, h.parts, h.same) refl
+
+spelled_none : (are_parts : List (List ℕ) → Bool) (read : List (List ℕ) → Record) (rest : List ℕ) → (is_spaced rest && are_parts (parts_of rest)) ≡ false → spelled_by are_parts read rest ≡ None
+spelled_none are_parts read rest h = rw h refl
+
+pub tour-spelled : (letter : ℕ) (rest : List ℕ) (r : Result View ViewFault) → letter ≡ 116 → IfOk r (λ v. IsReadAs are_tour_parts tour_of rest (record_of v)) → IfOk r (λ v. spelled (letter ∷ rest) ≡ Some (record_of v))
+tour-spelled letter rest (Ok v) e h = spelled_tour letter rest e ∙ spelled_from are_tour_parts tour_of rest (record_of v) h
+tour-spelled letter rest (Err fault) e h = h
+
+pub tour-none : (letter : ℕ) (rest : List ℕ) (r : Result View ViewFault) → letter ≡ 116 → IfErr r (λ _. (is_spaced rest && are_tour_parts (parts_of rest)) ≡ false) → IfErr r (λ _. spelled (letter ∷ rest) ≡ None)
+tour-none letter rest (Ok v) e h = h
+tour-none letter rest (Err fault) e h = spelled_tour letter rest e ∙ spelled_none are_tour_parts tour_of rest h
+
+pub bound-spelled : (letter : ℕ) (rest : List ℕ) (r : Result View ViewFault) → letter ≡ 98 → IfOk r (λ v. IsReadAs are_bound_parts bound_of rest (record_of v)) → IfOk r (λ v. spelled (letter ∷ rest) ≡ Some (record_of v))
+bound-spelled letter rest (Ok v) e h = spelled_bound letter rest e ∙ spelled_from are_bound_parts bound_of rest (record_of v) h
+bound-spelled letter rest (Err fault) e h = h
+
+pub bound-none : (letter : ℕ) (rest : List ℕ) (r : Result View ViewFault) → letter ≡ 98 → IfErr r (λ _. (is_spaced rest && are_bound_parts (parts_of rest)) ≡ false) → IfErr r (λ _. spelled (letter ∷ rest) ≡ None)
+bound-none letter rest (Ok v) e h = h
+bound-none letter rest (Err fault) e h = spelled_bound letter rest e ∙ spelled_none are_bound_parts bound_of rest h
+
+-- a line of another letter spells no record that is read so far
+pub other-none : (letter : ℕ) (rest : List ℕ) → letter ≢ 116 → letter ≢ 98 → spelled (letter ∷ rest) ≡ None
+unfolding spelled
+other-none letter rest t b = let no_tour = ne_eqb letter 116 t in let no_bound = ne_eqb letter 98 b in rw (no_tour, no_bound) refl
+
+-- ---- lines of other kinds
+
+-- what stands behind the first byte
+behind : (a b : ℕ) (xs ys : List ℕ) → a ∷ xs ≡ b ∷ ys → ys ≡ xs
+behind a b xs ys h = cc
+
+front : (a b : ℕ) (xs ys : List ℕ) → a ∷ xs ≡ b ∷ ys → b ≡ a
+front a b xs ys h = cc
+
+with_space : (letter : ℕ) (rest xs : List ℕ) → is_later_letter letter ≡ true → rest ≡ 32 ∷ xs → is_later (letter ∷ rest) ≡ true
+with_space letter rest xs later e = rw (later, e) refl
+
+-- a line of another kind goes on with a space, or is the letter `o`
+later-line : (item : Record) (letter : ℕ) (rest : List ℕ) → line_of item ≡ letter ∷ rest → is_later_letter letter ≡ true → is_later (letter ∷ rest) ≡ true
+later-line (Tour cost steps) letter rest h later = with_space letter rest _ later (behind _ letter _ rest h)
+later-line (Bound node den mult) letter rest h later = with_space letter rest _ later (behind _ letter _ rest h)
+later-line (Conn r1 r2 set) letter rest h later = with_space letter rest _ later (behind _ letter _ rest h)
+later-line (Round divisor mult) letter rest h later = with_space letter rest _ later (behind _ letter _ rest h)
+later-line (Kc k of) letter rest h later = with_space letter rest _ later (behind _ letter _ rest h)
+later-line (Empty node mult) letter rest h later = with_space letter rest _ later (behind _ letter _ rest h)
+later-line (Apart node r1 r2 set) letter rest h later = with_space letter rest _ later (behind _ letter _ rest h)
+later-line (Point node den numbers) letter rest h later = with_space letter rest _ later (behind _ letter _ rest h)
+later-line (Blind node) letter rest h later = with_space letter rest _ later (behind _ letter _ rest h)
+later-line (Split node arc k) letter rest h later = with_space letter rest _ later (behind _ letter _ rest h)
+later-line (Odd []) letter rest h later = let e = front _ letter _ rest h in let f = behind _ letter _ rest h in rw (e, f) refl
+later-line (Odd (x ∷ xs)) letter rest h later = with_space letter rest _ later (behind _ letter _ rest h)
+later-line (Labels [] streets) letter rest h later = with_space letter rest _ later (behind _ letter _ rest h)
+later-line (Labels (x ∷ xs) streets) letter rest h later = with_space letter rest _ later (behind _ letter _ rest h)
+
+-- the letter of a line of another kind
+later-letter : (item : Record) (letter : ℕ) (rest : List ℕ) → line_of item ≡ letter ∷ rest → letter ≢ 116 → letter ≢ 98 → is_later_letter letter ≡ true
+later-letter (Tour cost steps) letter rest h t b = absurd (t (front _ letter _ rest h))
+later-letter (Bound node den mult) letter rest h t b = absurd (b (front _ letter _ rest h))
+later-letter (Conn r1 r2 set) letter rest h t b = let e = front _ letter _ rest h in rw e refl
+later-letter (Round divisor mult) letter rest h t b = let e = front _ letter _ rest h in rw e refl
+later-letter (Kc k of) letter rest h t b = let e = front _ letter _ rest h in rw e refl
+later-letter (Empty node mult) letter rest h t b = let e = front _ letter _ rest h in rw e refl
+later-letter (Apart node r1 r2 set) letter rest h t b = let e = front _ letter _ rest h in rw e refl
+later-letter (Point node den numbers) letter rest h t b = let e = front _ letter _ rest h in rw e refl
+later-letter (Blind node) letter rest h t b = let e = front _ letter _ rest h in rw e refl
+later-letter (Split node arc k) letter rest h t b = let e = front _ letter _ rest h in rw e refl
+later-letter (Odd []) letter rest h t b = let e = front _ letter _ rest h in rw e refl
+later-letter (Odd (x ∷ xs)) letter rest h t b = let e = front _ letter _ rest h in rw e refl
+later-letter (Labels [] streets) letter rest h t b = let e = front _ letter _ rest h in rw e refl
+later-letter (Labels (x ∷ xs) streets) letter rest h t b = let e = front _ letter _ rest h in rw e refl
+
+-- a line that is neither a tour, a bound nor of another kind spells no record
+pub other-only : (letter : ℕ) (rest : List ℕ) → letter ≢ 116 → letter ≢ 98 → is_later (letter ∷ rest) ≡ false → (item : Record) → IsLineOf item (letter ∷ rest) → ⊥
+other-only letter rest t b none item line =
+    false≢true (sym none ∙ later-line item letter rest line.text (later-letter item letter rest line.text t b))

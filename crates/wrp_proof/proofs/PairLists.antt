@@ -98,7 +98,7 @@ goes_up most low room (part ∷ parts) h =
     record {
       each = and_from (is_pair most part) (list_all (is_pair most) parts) here.0 others.each;
       up = and_from (nat_le x (2 ^ 32 - 1) && list_all (nat_lt x) xs) (is_ascending (2 ^ 32 - 1) xs)
-        (and_from (nat_le x (2 ^ 32 - 1)) (list_all (nat_lt x) xs) (index-most x (first-index most part here.0)) larger) others.up;
+          (and_from (nat_le x (2 ^ 32 - 1)) (list_all (nat_lt x) xs) (index-most x (first-index most part here.0)) larger) others.up;
       from = and_from (nat_le low x) (list_all (nat_le low) xs) tests.1 (lowered low x xs (leb-true low x tests.1) larger);
       few = omega (arith, ltb-true 0 room tests.0, others.few);
     }
@@ -113,8 +113,8 @@ go_up-from most low room (part ∷ parts) h =
     let larger = (and_parts (nat_le x (2 ^ 32 - 1)) (list_all (nat_lt x) xs) up.0).1 in
     let from = and_parts (nat_le low x) (list_all (nat_le low) xs) h.from in
     and_from (is_pair most part && (nat_lt 0 room && nat_le low x)) (go_up most (x + 1) (room - 1) parts)
-      (and_from (is_pair most part) (nat_lt 0 room && nat_le low x) each.0 (and_from (nat_lt 0 room) (nat_le low x) (lt-ltb 0 room (omega (arith, h.few))) from.0))
-      (go_up-from most (x + 1) (room - 1) parts (record { each = each.1; up = up.1; from = above x xs larger; few = omega (arith, h.few) }))
+    (and_from (is_pair most part) (nat_lt 0 room && nat_le low x) each.0 (and_from (nat_lt 0 room) (nat_le low x) (lt-ltb 0 room (omega (arith, h.few))) from.0))
+    (go_up-from most (x + 1) (room - 1) parts (record { each = each.1; up = up.1; from = above x xs larger; few = omega (arith, h.few) }))
 
 -- pairs that go up from 0 with room for 4,096 are multipliers
 ranged : (most : ℕ) (parts : List (List ℕ)) → list_all (is_pair most) parts ≡ true → list_all (λ q. is_from_one most q.1) (map pair_of parts) ≡ true
@@ -139,9 +139,9 @@ parts-multipliers : (most : ℕ) (parts : List (List ℕ)) → GoesUp most 0 409
 parts-multipliers most parts h =
     let pairs = map pair_of parts in
     and_from (list_all (is_pair most) parts) (are_multipliers most pairs) h.each
-      (and_from (are_pairs most pairs) (nat_le (length pairs) 4096)
-        (and_from (is_ascending (2 ^ 32 - 1) (firsts pairs)) (list_all (λ q. is_from_one most q.1) pairs) h.up (ranged most parts h.each))
-        (le-leb (length pairs) 4096 (omega (arith, h.few, length-map parts pair_of))))
+    (and_from (are_pairs most pairs) (nat_le (length pairs) 4096)
+    (and_from (is_ascending (2 ^ 32 - 1) (firsts pairs)) (list_all (λ q. is_from_one most q.1) pairs) h.up (ranged most parts h.each))
+    (le-leb (length pairs) 4096 (omega (arith, h.few, length-map parts pair_of))))
 
 pub go_up-start : (most : ℕ) (parts : List (List ℕ)) → go_up most 0 4096 parts ≡ are_multiplier_parts most parts
 go_up-start most parts = same_tests (go_up most 0 4096 parts) (are_multiplier_parts most parts)
@@ -174,11 +174,12 @@ pub go_up-goes : (most low room next : ℕ) (part : List ℕ) (all parts : List 
     → Some next ≡ cond (may_come most low room part) (Some ((pair_of part).0 + 1)) None → (0 < room) × (go_up most next (room - 1) parts ≡ whole)
 go_up-goes most low room next part all parts whole h e some =
     let found = guard_some (may_come most low room part) ((pair_of part).0 + 1) next some in
-    let tests = and_parts (is_pair most part) (nat_lt 0 room && nat_le low (pair_of part).0) found.0 in
-    (ltb-true 0 room (and_parts (nat_lt 0 room) (nat_le low (pair_of part).0) tests.1).0,
-     ap (λ n. go_up most n (room - 1) parts) found.1
-     ∙ ap (λ b. b && go_up most ((pair_of part).0 + 1) (room - 1) parts) (sym found.0)
-     ∙ sym (ap (go_up most low room) e) ∙ h)
+    let tests = and_parts (is_pair most part) (nat_lt 0 room && nat_le low (pair_of part).0) found.0 in (
+      ltb-true 0 room (and_parts (nat_lt 0 room) (nat_le low (pair_of part).0) tests.1).0,
+      ap (λ n. go_up most n (room - 1) parts) found.1
+          ∙ ap (λ b. b && go_up most ((pair_of part).0 + 1) (room - 1) parts) (sym found.0)
+          ∙ sym (ap (go_up most low room) e) ∙ h,
+    )
 
 -- what the parts of pairs are
 pub record ArePairTexts (most : ℕ) (pairs : List (ℕ × ℕ)) : Type 0 where

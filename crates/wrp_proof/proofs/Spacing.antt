@@ -24,9 +24,10 @@ spread-onto_first b bytes (part ∷ parts) h = cc
 pub spread-split : (bytes : List ℕ) → spread (slice_split is_space bytes) ≡ 32 ∷ bytes
 spread-split [] = refl
 spread-split (b ∷ bytes) = elim (cases_Bool (is_space b)) [
-    inl here ↦ let space = eqb-true b 32 here in
+  | inl here ↦ let space = eqb-true b 32 here in
       ap spread (slice_split-cons_yes is_space b bytes here) ∙ ap (λ rest. 32 ∷ rest) (spread-split bytes) ∙ ap (λ c. 32 ∷ c ∷ bytes) (sym space)
-  | inr other ↦ ap spread (slice_split-cons_no is_space b bytes other) ∙ spread-onto_first b bytes (slice_split is_space bytes) (spread-split bytes) ]
+  | inr other ↦ ap spread (slice_split-cons_no is_space b bytes other) ∙ spread-onto_first b bytes (slice_split is_space bytes) (spread-split bytes)
+]
 
 -- what is left of a line is its parts, spread
 pub spread-parts_of : (left : List ℕ) → is_spaced left ≡ true → spread (parts_of left) ≡ left

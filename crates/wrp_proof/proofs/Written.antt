@@ -28,8 +28,9 @@ number-text part h small =
     let digits = and_parts (nat_lt 0 (length part)) (list_all is_ascii_digit part) parts.0 in
     let some : 0 < length part = ltb-true 0 (length part) digits.0 in
     let one : get_or part 0 0 ≡ 48 → length part ≡ 1 = λ zero. elim (or_cases (nat_le (length part) 1) (not (get_or part 0 0 == 48)) parts.1) [
-        inl short ↦ omega (arith, leb-true (length part) 1 short)
-      | inr other ↦ absurd (both_ways (get_or part 0 0 == 48) (not-true (get_or part 0 0 == 48) other) (eq-eqb (get_or part 0 0) 48 zero)) ] in
+      | inl short ↦ omega (arith, leb-true (length part) 1 short)
+      | inr other ↦ absurd (both_ways (get_or part 0 0 == 48) (not-true (get_or part 0 0 == 48) other) (eq-eqb (get_or part 0 0) 48 zero))
+    ] in
     decimal-digits_value digits_model part digits.1 some one small
 
 -- what `decimal` writes is a number with that value
@@ -38,8 +39,9 @@ text-number n small =
     let some = lt-ltb 0 (length (decimal n)) (decimal_nonempty n small) in
     let digits = and_from (nat_lt 0 (length (decimal n))) (list_all is_ascii_digit (decimal n)) some (digits_decimal digits_model n small) in
     let plain : (nat_le (length (decimal n)) 1 || not (get_or (decimal n) 0 0 == 48)) ≡ true = elim (cases_eq n 0) [
-        inl zero ↦ or_left (nat_le (length (decimal n)) 1) (not (get_or (decimal n) 0 0 == 48)) (le-leb (length (decimal n)) 1 (omega (arith, ap length (decimal_digit n (omega arith)))))
-      | inr other ↦ or_right (nat_le (length (decimal n)) 1) (not (get_or (decimal n) 0 0 == 48)) (not_from_false (get_or (decimal n) 0 0 == 48) (ne_eqb (get_or (decimal n) 0 0) 48 (λ e. omega (arith, first_decimal n (omega arith) small)))) ] in
+      | inl zero ↦ or_left (nat_le (length (decimal n)) 1) (not (get_or (decimal n) 0 0 == 48)) (le-leb (length (decimal n)) 1 (omega (arith, ap length (decimal_digit n (omega arith)))))
+      | inr other ↦ or_right (nat_le (length (decimal n)) 1) (not (get_or (decimal n) 0 0 == 48)) (not_from_false (get_or (decimal n) 0 0 == 48) (ne_eqb (get_or (decimal n) 0 0) 48 (λ e. omega (arith, first_decimal n (omega arith) small))))
+    ] in
     (and_from (is_digits (decimal n)) (nat_le (length (decimal n)) 1 || not (get_or (decimal n) 0 0 == 48)) digits plain, digits_value-decimal digits_model n small)
 
 -- a text that ends with a byte: what stands before it, and the byte
@@ -78,18 +80,21 @@ text-step step h =
     let small : step.street < 2 ^ 32 = ltb-true step.street (2 ^ 32) h in
     let parts = ends_with (decimal step.street) sign in
     let number = text-number step.street (omega arith) in
-    let value : number_of (street_part (step_text step)) ≡ step.street = ap number_of parts.0 ∙ number.1 in
-    (and_from (is_sign (sign_of (step_text step))) (is_number (street_part (step_text step)) && is_index (number_of (street_part (step_text step))))
-      (rw parts.1 (is_sign_of step.back))
-      (and_from (is_number (street_part (step_text step))) (is_index (number_of (street_part (step_text step)))) (rw parts.0 number.0) (rw value h)),
-      same step (step_of (step_text step)) value (ap (λ s. s == 45) parts.1 ∙ back_of step.back))
+    let value : number_of (street_part (step_text step)) ≡ step.street = ap number_of parts.0 ∙ number.1 in (
+      and_from (is_sign (sign_of (step_text step))) (is_number (street_part (step_text step)) && is_index (number_of (street_part (step_text step))))
+          (rw parts.1 (is_sign_of step.back))
+          (and_from (is_number (street_part (step_text step))) (is_index (number_of (street_part (step_text step)))) (rw parts.0 number.0) (rw value h)),
+      same step (step_of (step_text step)) value (ap (λ s. s == 45) parts.1 ∙ back_of step.back),
+    )
   where
     is_sign_of : (back : Bool) → is_sign (cond back 45 43) ≡ true
     is_sign_of true = refl
     is_sign_of false = refl
+
     back_of : (back : Bool) → (cond back 45 43 == 45) ≡ back
     back_of true = refl
     back_of false = refl
+
     same : (a b : Step) → b.street ≡ a.street → b.back ≡ a.back → b ≡ a
     same a b s t =
         let step : ℕ → Bool → Step = λ street back. record { street = street; back = back } in

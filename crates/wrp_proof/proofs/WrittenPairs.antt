@@ -33,16 +33,18 @@ colon_place xs ys digits =
 
 pub halves-at : (xs ys : List ℕ) → list_all is_ascii_digit xs ≡ true → (first_half (xs ++ 58 ∷ ys) ≡ xs) × (second_half (xs ++ 58 ∷ ys) ≡ ys)
 halves-at xs ys digits =
-    let place = colon_place xs ys digits in
-    (ap (λ n. take n (xs ++ 58 ∷ ys)) place ∙ take_at xs (58 ∷ ys) (length xs) refl,
-     ap (λ n. drop (n + 1) (xs ++ 58 ∷ ys)) place ∙ ap (drop (length xs + 1)) (sym (append_assoc xs (58 ∷ []) ys)) ∙ drop_at (xs ++ 58 ∷ []) ys (length xs + 1) (length_push xs 58))
+    let place = colon_place xs ys digits in (
+      ap (λ n. take n (xs ++ 58 ∷ ys)) place ∙ take_at xs (58 ∷ ys) (length xs) refl,
+      ap (λ n. drop (n + 1) (xs ++ 58 ∷ ys)) place ∙ ap (drop (length xs + 1)) (sym (append_assoc xs (58 ∷ []) ys)) ∙ drop_at (xs ++ 58 ∷ []) ys (length xs + 1) (length_push xs 58),
+    )
 
 -- where something stands behind a colon, the halves and the colon are the whole
 pub halves-whole : (part : List ℕ) → 0 < length (second_half part) → first_half part ++ 58 ∷ second_half part ≡ part
 halves-whole part some = elim (cases_lt (position_or_len is_colon part) (length part)) [
-    inl lt ↦ let colon = eqb-true (get_or part (position_or_len is_colon part) 0) 58 (passes_at_first is_colon part 0 lt) in
+  | inl lt ↦ let colon = eqb-true (get_or part (position_or_len is_colon part) 0) 58 (passes_at_first is_colon part 0 lt) in
       ap (λ c. first_half part ++ c ∷ second_half part) (sym colon) ∙ sym (split_at_first is_colon part 0 lt)
-  | inr ge ↦ absurd (omega (arith, ap length (drop_all (position_or_len is_colon part + 1) part (omega arith)))) ]
+  | inr ge ↦ absurd (omega (arith, ap length (drop_all (position_or_len is_colon part + 1) part (omega arith))))
+]
 
 -- a pair that is written right is written as its numbers and a colon
 pub pair-text : (most : ℕ) (part : List ℕ) → most < 2 ^ 63 → is_pair most part ≡ true → pair_text (pair_of part) ≡ part
@@ -66,8 +68,9 @@ text-pair most pair small index range =
     let two = text-number pair.1 (omega arith) in
     let halves = halves-at (decimal pair.0) (decimal pair.1) (number_digits (decimal pair.0) one.0).1 in
     let first : number_of (first_half (pair_text pair)) ≡ pair.0 = ap number_of halves.0 ∙ one.1 in
-    let second : number_of (second_half (pair_text pair)) ≡ pair.1 = ap number_of halves.1 ∙ two.1 in
-    (and_from (is_number (first_half (pair_text pair)) && is_index (number_of (first_half (pair_text pair)))) (is_number (second_half (pair_text pair)) && is_from_one most (number_of (second_half (pair_text pair))))
-      (and_from (is_number (first_half (pair_text pair))) (is_index (number_of (first_half (pair_text pair)))) (rw halves.0 one.0) (rw first index))
-      (and_from (is_number (second_half (pair_text pair))) (is_from_one most (number_of (second_half (pair_text pair)))) (rw halves.1 two.0) (rw second range)),
-      ap (λ n. (n, number_of (second_half (pair_text pair)))) first ∙ ap (λ n. (pair.0, n)) second)
+    let second : number_of (second_half (pair_text pair)) ≡ pair.1 = ap number_of halves.1 ∙ two.1 in (
+      and_from (is_number (first_half (pair_text pair)) && is_index (number_of (first_half (pair_text pair)))) (is_number (second_half (pair_text pair)) && is_from_one most (number_of (second_half (pair_text pair))))
+          (and_from (is_number (first_half (pair_text pair))) (is_index (number_of (first_half (pair_text pair)))) (rw halves.0 one.0) (rw first index))
+          (and_from (is_number (second_half (pair_text pair))) (is_from_one most (number_of (second_half (pair_text pair)))) (rw halves.1 two.0) (rw second range)),
+      ap (λ n. (n, number_of (second_half (pair_text pair)))) first ∙ ap (λ n. (pair.0, n)) second,
+    )

@@ -9,3 +9,4 @@ pub mod Judged
 pub mod Parts
 pub mod Shapes
 pub mod Views
+pub mod Ends

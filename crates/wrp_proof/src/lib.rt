@@ -2,16 +2,20 @@
 //! lines that spell them.
 #![tactic(auto)]
 
+mod end;
+mod fault;
 mod parts;
 mod place;
-mod text;
-mod views;
 mod reading;
 mod record;
 mod rule;
+mod text;
+mod views;
 
+pub use end::{is_later_end, read_end};
+pub use fault::LineFault;
 pub use parts::{PairsOf, StepsOf};
+pub use reading::view;
 pub use record::{End, Record};
 pub use rule::Rule;
-pub use reading::view;
 pub use views::{View, ViewFault};

@@ -47,6 +47,13 @@ impl<'a> StepsOf<'a> {
         }
     }
 
+    /// The steps that are left, lent once more.
+    pub fn again(&self) -> StepsOf<'a>
+        ensures { result ≡ self.now }
+    {
+        StepsOf { left: self.left }
+    }
+
     /// Takes the first step. `None` where no step is left.
     pub fn next(&mut self) -> Option<Step>
         ensures some { IfSome result (λ step. self.old ≡ step ∷ self.new) }
@@ -98,6 +105,13 @@ impl<'a> PairsOf<'a> {
         } else {
             None
         }
+    }
+
+    /// The pairs that are left, lent once more.
+    pub fn again(&self) -> PairsOf<'a>
+        ensures { result ≡ self.now }
+    {
+        PairsOf { left: self.left }
     }
 
     /// Takes the first pair. `None` where no pair is left.

@@ -64,7 +64,7 @@ fn step_form(part: &[u8]) -> usize
 }
 
 /// The number of digits with which a part begins.
-fn digits_before(part: &[u8]) -> usize
+pub(crate) fn digits_before(part: &[u8]) -> usize
     ensures { result ≤ length part.now }
 {
     for (place, byte) in part.iter().enumerate() {

@@ -31,7 +31,7 @@ pub(crate) fn split_part(left: &[u8]) -> Option<(&[u8], &[u8])>
 }
 
 /// The first part of these bytes, and what is left after it.
-fn first_part(bytes: &[u8]) -> (&[u8], &[u8])
+pub(crate) fn first_part(bytes: &[u8]) -> (&[u8], &[u8])
     ensures parts { slice_split is_space bytes.now ≡ result.0.now ∷ parts_of result.1.now }
     ensures length { length bytes.now ≡ length result.0.now + length result.1.now }
 {
@@ -75,7 +75,11 @@ fn read_number(part: &[u8], limit: u128) -> Option<u128>
     requires limit { limit < 2 ^ 100 }
     ensures { result ≡ (if is_number part.now && nat_lt (number_of part.now) limit then Some (number_of part.now) else None) }
 {
-    if is_number_text(part) { value_below(part, limit) } else { None }
+    if is_number_text(part) {
+        value_below(part, limit)
+    } else {
+        None
+    }
 }
 
 /// The value of digits, where it is below the limit.

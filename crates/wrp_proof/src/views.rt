@@ -5,7 +5,10 @@ use crate::parts::{PairsOf, StepsOf};
 #[derive(Debug, Drop)]
 pub enum View<'a> {
     /// A tour of this cost.
-    Tour { cost: u64, steps: StepsOf<'a> },
+    Tour {
+        cost: u64,
+        steps: StepsOf<'a>,
+    },
     /// A bound of a node, by multipliers of rows over the denominator `den`.
     Bound {
         node: u64,

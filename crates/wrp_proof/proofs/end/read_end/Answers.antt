@@ -1,0 +1,13 @@
+use Rattle.std.proofs.Common.{◌≡◌, Option, Some, None, sym, ◌∙◌}
+use Rattle.wrp_proof.specs.declared.record.End.{End}
+use Rattle.wrp_proof.proofs.EndLaws.{found-line, line-found}
+use Rattle.wrp_proof.proofs.end.read_end.Goals as goal
+
+pub returns-in-Some-clause-found : goal.returns-in-Some-clause-found
+returns-in-Some-clause-found c = found-line c.args.line.now c.in-Some.end (sym c.in-Some.ensures)
+
+pub returns-in-None-clause-only : goal.returns-in-None-clause-only
+returns-in-None-clause-only c = λ end line short. clash end (c.in-None.ensures ∙ line-found c.args.line.now end line)
+  where
+    clash : (end : End) → None ≡ Some end → ⊥
+    clash end e = cc
