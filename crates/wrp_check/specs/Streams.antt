@@ -1,7 +1,8 @@
 -- A proof as it is read from a source: line by line, with some bytes of the next lines read ahead.
-use Rattle.std.specs.Prelude.{◌≡◌, ℕ, ◌+◌, ◌<◌, ◌≤◌, ◌^◌, ◌⊎◌, min, Bool, not, ◌==◌, List, [], ◌∷◌, ◌++◌, length, Option}
+use Rattle.std.specs.Prelude.{ℕ, ◌+◌, ◌<◌, ◌≤◌, ◌^◌, ◌⊎◌, min, Bool, not, ◌==◌, List, [], ◌∷◌, ◌++◌, length, Option}
 use Rattle.std.specs.Option.{option_map}
 use Rattle.std.specs.List.{list_all, prefix_len}
+use Rattle.wrp_out.specs.Told.{Tells}
 use Rattle.wrp_check.specs.declared.lines.Ending.{Ending}
 use Rattle.wrp_check.specs.declared.lines.Ending.TheVariants.{Feed, Input}
 
@@ -10,6 +11,13 @@ pub record Reading : Type 0 where
   pub pending : List ℕ
   pub line : List ℕ
   pub taken : ℕ
+
+-- the pending bytes stand in the chunk, which has room for a byte, and no more bytes were taken than a proof may have
+pub record IsWithin (at end size taken : ℕ) : Type 0 where
+  pub in_order : at ≤ end
+  pub inside : end ≤ size
+  pub room : 0 < size
+  pub most : taken ≤ 2 ^ 40
 
 -- the greatest number of bytes of a proof
 abbrev pub most_bytes : ℕ
@@ -23,6 +31,11 @@ left_in told reading = option_map (λ left. reading.pending ++ left) told
 abbrev pub ending_bytes : Ending → List ℕ
 ending_bytes Feed = 10 ∷ []
 ending_bytes Input = []
+
+-- where the line ended with the input, nothing is left
+abbrev pub EndsAsSaid : Ending → Option (List ℕ) → Type 0
+EndsAsSaid Feed left = Unit {0}
+EndsAsSaid Input left = Tells left []
 
 -- no byte of the line is a line feed
 abbrev pub is_one_line : List ℕ → Bool

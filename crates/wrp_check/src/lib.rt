@@ -3,7 +3,11 @@
 //! It holds one line and its own numbers, never the whole proof.
 #![tactic(auto)]
 
+mod bound;
 mod check;
+mod judge;
 mod lines;
+mod pool;
+mod tour;
 
 pub use check::CheckFault;

@@ -1,15 +1,17 @@
 -- The street table: a header and a row for each street.
-use Rattle.std.specs.Prelude.{◌≡◌, ℕ, ◌+◌, ◌<◌, Bool, cond, if◌then◌else◌, not, nat_le, nat_lt, List, [], ◌∷◌, ◌++◌, length, Result, Ok, Err}
+use Rattle.std.specs.Prelude.{◌≡◌, ℕ, ◌+◌, if◌then◌else◌, nat_lt, List, [], ◌∷◌, ◌++◌, length, Result, Ok, Err}
 use Rattle.std.specs.List.{list_any, position_or_len}
 use Rattle.std.specs.Str.{bytes_eq}
 use Rattle.wrp_records.specs.Streams.{records_of}
 use Rattle.wrp_records.specs.Headers.{is_header}
 use Rattle.wrp_town.specs.declared.street.Street.{Street}
 use Rattle.wrp_town.specs.declared.town.Town.{Town}
-use Rattle.wrp_town.specs.Streets.{demands_from, demands_at}
+use Rattle.wrp_town.specs.Streets.{demands_from}
 use Rattle.wrp_street.specs.declared.table.TableFault.{TableFault}
 use Rattle.wrp_street.specs.declared.table.TableFault.TheVariants as faults
-use Rattle.wrp_street.specs.Rows.{Row, row_of, ◌>>=◌}
+use Rattle.wrp_street.specs.declared.row.Row.{Row}
+use Rattle.wrp_street.specs.Faults.{◌>>=◌, Fails}
+use Rattle.wrp_street.specs.Rows.{row_of}
 
 -- the junctions and the streets that a table names
 pub record Table : Type 0 where
@@ -87,18 +89,6 @@ table_in town = record { junctions = town.junctions; streets = town.streets }
 -- the bytes are the table of the town
 abbrev pub IsTable : List ℕ → Town → Type 0
 IsTable bytes town = table_of bytes ≡ Ok (table_in town)
-
--- the reader stopped at want of memory, or at the first fault of the table
-abbrev pub Fails : TableFault → Result Table TableFault → Type 0
-Fails faults.Header read = read ≡ Err faults.Header
-Fails (faults.Fields row) read = read ≡ Err (faults.Fields row)
-Fails (faults.Name row field) read = read ≡ Err (faults.Name row field)
-Fails (faults.Cost row field) read = read ≡ Err (faults.Cost row field)
-Fails (faults.Need row) read = read ≡ Err (faults.Need row)
-Fails (faults.Streets row) read = read ≡ Err (faults.Streets row)
-Fails (faults.Junctions row) read = read ≡ Err (faults.Junctions row)
-Fails (faults.Demands row) read = read ≡ Err (faults.Demands row)
-Fails faults.Memory read = Unit {0}
 
 -- what the reader answers is what the bytes spell
 abbrev pub Reads : Result Town TableFault → Result Table TableFault → Type 0

@@ -1,3 +1,9 @@
+// What can be wrong with a table.
+
+ghost use Rattle.std.specs.Prelude.{◌≡◌};
+ghost use Rattle.wrp_street.specs.declared.table.TableFault.TheVariants.{Memory};
+
+use std::alloc::{AllocError, AllocFailed};
 use thiserror::Error;
 
 /// Why a table makes no town. Rows are numbered from 1 behind the header, fields from 1 to 6.
@@ -32,5 +38,18 @@ pub enum TableFault {
     Memory,
 }
 
-/// nothing
-pub fn read_town() {}
+impl From<AllocError> for TableFault {
+    ghost from_gives = { λ _ fault. fault ≡ Memory };
+
+    fn from(_error: AllocError) -> TableFault {
+        TableFault::Memory
+    }
+}
+
+impl<T: Drop> From<AllocFailed<T>> for TableFault {
+    ghost from_gives = { λ _ fault. fault ≡ Memory };
+
+    fn from(_error: AllocFailed<T>) -> TableFault {
+        TableFault::Memory
+    }
+}

@@ -1,0 +1,5 @@
+pub mod Stops
+pub mod Places
+pub mod RowSteps
+pub mod RowFacts
+pub mod TownSteps
