@@ -1,5 +1,5 @@
 -- A test of all arcs that pass another, one arc after another.
-use Rattle.std.proofs.Common.{◌≡◌, ℕ, suc, ◌+◌, ◌-◌, ◌<◌, Bool, true, false, cond, not, ◌&&◌, ◌||◌, List, [], ◌∷◌, filter, refl, sym, ◌∙◌, arith}
+use Rattle.std.proofs.Common.{◌≡◌, ℕ, suc, ◌+◌, ◌-◌, ◌<◌, Bool, true, false, cond, not, ◌&&◌, ◌||◌, List, ◌∷◌, filter, refl, sym, ◌∙◌, arith}
 use Rattle.std.specs.List.{list_all, range_with_len}
 
 module _ (p q : ℕ → Bool) where

@@ -7,3 +7,9 @@ pub mod PlainValues
 pub mod Balances
 pub mod Services
 pub mod TourLaws
+pub mod LineCuts
+pub mod VerdictSteps
+pub mod Soundness
+pub mod Completeness
+pub mod Passing
+pub mod Bounding

@@ -1,5 +1,5 @@
 -- Where no reduced cost is negative, the least numbers of uses are the cheapest, and at 0 they add nothing to the bound.
-use Rattle.std.proofs.Common.{◌≡◌, ℕ, ◌+◌, ◌*◌, ◌<◌, ◌≤◌, Bool, true, false, cond, ◌&&◌, ℤ, pos, ◌+ℤ◌, ◌-ℤ◌, ◌*ℤ◌, int_lt, int_le, List, [], ◌∷◌, length, get_or, Contains, Option, Some, None, ap, refl, sym, ◌∙◌, subst, arith}
+use Rattle.std.proofs.Common.{◌≡◌, ℕ, ◌*◌, ◌<◌, Bool, true, false, cond, ◌&&◌, ℤ, pos, ◌+ℤ◌, ◌-ℤ◌, ◌*ℤ◌, int_lt, int_le, List, [], ◌∷◌, length, get_or, Contains, ap, refl, sym, ◌∙◌, arith}
 use Rattle.std.specs.Prelude.{if◌then◌else◌}
 use Rattle.std.specs.List.{list_all}
 use Rattle.std.proofs.lemmas.Bool.{false_from_ne_true}
@@ -17,7 +17,6 @@ use Rattle.wrp_town.proofs.TownLaws.{legal_below}
 use Rattle.wrp_proof.specs.Rows.{Row, row_at}
 use Rattle.wrp_proof.specs.Nodes.{Node, program, bound_value}
 use Rattle.wrp_check.specs.declared.pool.Pool.{Pool}
-use Rattle.wrp_check.specs.declared.bound.Judged.{Judged}
 use Rattle.wrp_check.specs.declared.bound.Judged.TheVariants.{Missing, Negative, Bound}
 use Rattle.wrp_check.specs.Pools.{Holds, has_rows, weighted_coef, weighted_side, is_plain, judged}
 use Rattle.wrp_check.proofs.Weights.{weighted_coef_held, weighted_side_held, has_rows_held}

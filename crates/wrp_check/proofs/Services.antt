@@ -1,26 +1,24 @@
 -- The sparse rows of a town before any cut are its base rows.
-use Rattle.std.proofs.Common.{◌≡◌, ℕ, zero, suc, ◌+◌, ◌*◌, ◌<◌, ◌≤◌, ◌≢◌, Bool, true, false, cond, ◌==◌, ◌||◌, nat_eq, AllPairs, ℤ, pos, ◌+ℤ◌, unsigned_abs, List, [], ◌∷◌, ◌++◌, map, length, get_or, filter, Contains, count_by, ap, refl, sym, ◌∙◌, subst, arith, eq-eqb}
+use Rattle.std.proofs.Common.{◌≡◌, ℕ, zero, suc, ◌+◌, ◌*◌, ◌<◌, ◌≤◌, ◌≢◌, Bool, true, false, cond, ◌==◌, ◌||◌, nat_eq, AllPairs, ℤ, pos, List, [], ◌∷◌, ◌++◌, map, length, get_or, filter, Contains, count_by, ap, refl, sym, ◌∙◌, subst, arith, eq-eqb}
 use Rattle.std.proofs.lemmas.List.{length-map}
 use Rattle.std.specs.Prelude.{if◌then◌else◌, nat_lt}
-use Rattle.std.specs.List.{All, AllZip, AllByRecursion, list_any, range_with_len}
-use Rattle.std.proofs.lemmas.Bool.{eqb-true, ltb-true, true≢false, false≢true}
+use Rattle.std.specs.List.{AllZip, AllByRecursion, list_any}
+use Rattle.std.proofs.lemmas.Bool.{eqb-true, true≢false, false≢true}
 use Rattle.std.proofs.lemmas.Bool.Decides.{nat_tests}
 use Rattle.std.proofs.lemmas.List.Elements.{All-map, All-weaker, filter_passes}
 use Rattle.std.proofs.lemmas.List.FromFn.{length-map-range_with_len, get_or-map-range_with_len}
 use Rattle.std.proofs.lemmas.List.Sums.{length-filter, count_by-le-length}
-use Rattle.wrp_sums.specs.Sums.{sum_over, coef_at}
-use Rattle.wrp_sums.proofs.Integers.{linear}
 use Rattle.wrp_sums.proofs.SumsOver.{sum_over-map, sum_over-count, count_by-filter, count_once, count_none, inside_head, inside_tail}
 use Rattle.wrp_town.specs.declared.street.Need.{Need}
 use Rattle.wrp_town.specs.declared.street.Need.TheVariants.{No, Either, Forward, Backward, Both}
 use Rattle.wrp_town.specs.declared.street.Street.{Street}
 use Rattle.wrp_town.specs.declared.town.Town.{Town}
 use Rattle.wrp_town.specs.Streets.{demands_at, demands_from}
-use Rattle.wrp_town.specs.Arcs.{is_legal, junctions, demands, has_arc}
+use Rattle.wrp_town.specs.Arcs.{is_legal, junctions, demands}
 use Rattle.wrp_town.proofs.TownLaws.{few_streets, legal_below}
-use Rattle.wrp_proof.specs.Rows.{Row, one_if, balance_row, service_row, base_rows}
+use Rattle.wrp_proof.specs.Rows.{one_if, balance_row, service_row, base_rows}
 use Rattle.wrp_check.specs.declared.pool.SparseRow.{SparseRow}
-use Rattle.wrp_check.specs.Pools.{IsSmallTerm, IsSmallRow, IsRow}
+use Rattle.wrp_check.specs.Pools.{IsSmallTerm, IsRow}
 use Rattle.wrp_check.specs.Sparse.{bare_row, sparse_service, IsBalanceBelow, AreBalancesBelow}
 
 -- ---- lists, one against another

@@ -1,5 +1,5 @@
 -- A table of sums to which the terms of a sparse row are added, one after another.
-use Rattle.std.proofs.Common.{◌≡◌, ℕ, ◌+◌, ◌*◌, ◌^◌, ◌<◌, ◌≤◌, ◌≢◌, Bool, true, false, cond, ◌==◌, ℤ, pos, ◌+ℤ◌, ◌*ℤ◌, List, length, get_or, take, set, ap, refl, sym, ◌∙◌, subst, arith, eq-eqb, get_or-set_other, get_or-set_same}
+use Rattle.std.proofs.Common.{◌≡◌, ℕ, ◌+◌, ◌<◌, ◌≢◌, Bool, true, false, cond, ◌==◌, ℤ, pos, ◌+ℤ◌, ◌*ℤ◌, List, length, get_or, take, set, ap, refl, sym, ◌∙◌, subst, arith, eq-eqb, get_or-set_other, get_or-set_same}
 use Rattle.std.proofs.lemmas.Bool.{eqb-true, eqb-false, ne_eqb}
 use Rattle.wrp_sums.specs.Sums.{coef_at}
 use Rattle.wrp_sums.proofs.Integers.{linear, *ℤ-+ℤ}

@@ -1,18 +1,18 @@
 -- The weighted sums of the pool's rows, pair after pair, and that they are those of the rows that it holds.
-use Rattle.std.proofs.Common.{◌≡◌, ℕ, zero, suc, ◌+◌, ◌*◌, ◌^◌, ◌<◌, ◌≤◌, Bool, true, false, ◌&&◌, ℤ, pos, ◌+ℤ◌, ◌*ℤ◌, List, [], ◌∷◌, length, get_or, ap, refl, sym, ◌∙◌, subst, arith}
+use Rattle.std.proofs.Common.{◌≡◌, ℕ, zero, suc, ◌*◌, ◌^◌, ◌<◌, ◌≤◌, Bool, true, ◌&&◌, ℤ, pos, ◌*ℤ◌, List, [], ◌∷◌, length, get_or, ap, refl, sym, ◌∙◌, arith}
 use Rattle.std.specs.Prelude.{nat_lt, nat_le}
-use Rattle.std.specs.List.{AllZip, list_all}
-use Rattle.std.proofs.lemmas.Bool.{and_parts, ltb-true, leb-true}
+use Rattle.std.specs.List.{All, AllZip, list_all}
+use Rattle.std.proofs.lemmas.Bool.{and_parts, ltb-true, leb-true, lt-ltb}
 use Rattle.std.proofs.lemmas.Slice.Zip.{AllZip-long}
-use Rattle.wrp_sums.specs.Sums.{sum_over, coef_at}
+use Rattle.wrp_sums.specs.Sums.{sum_over}
 use Rattle.wrp_sums.proofs.Integers.{linear}
 use Rattle.wrp_town.specs.declared.town.Town.{Town}
 use Rattle.wrp_town.specs.Arcs.{is_legal}
 use Rattle.wrp_proof.specs.Rows.{Row, row_at}
-use Rattle.wrp_proof.specs.Rules.{is_from_one, are_pairs, are_multipliers}
+use Rattle.wrp_proof.specs.Rules.{is_from_one}
 use Rattle.wrp_check.specs.declared.pool.SparseRow.{SparseRow}
 use Rattle.wrp_check.specs.declared.pool.Pool.{Pool}
-use Rattle.wrp_check.specs.Pools.{IsRow, Holds, sparse_at, has_rows, weighted_coef, weighted_side}
+use Rattle.wrp_check.specs.Pools.{IsSmallRow, IsRow, Holds, sparse_at, has_rows, weighted_coef, weighted_side}
 
 -- the first pair's row is there, and those of the pairs after it
 pub first_row : (pool : Pool) (q : ℕ × ℕ) (mult : List (ℕ × ℕ)) → has_rows pool (q ∷ mult) ≡ true → (q.0 < length pool.rows) × (has_rows pool mult ≡ true)
@@ -26,19 +26,9 @@ first_multiplier q mult are =
     let parts = and_parts (is_from_one (2 ^ 60) q.1) (list_all (λ p. is_from_one (2 ^ 60) p.1) mult) are in
     (leb-true q.1 (2 ^ 60) (and_parts (nat_le 1 q.1) (nat_le q.1 (2 ^ 60)) parts.0).1, parts.1)
 
--- what the rules of multipliers say of their sizes and of their number
-pub multipliers_limits : (mult : List (ℕ × ℕ)) → are_multipliers (2 ^ 60) mult ≡ true → (list_all (λ p. is_from_one (2 ^ 60) p.1) mult ≡ true) × (length mult ≤ 4096)
-multipliers_limits mult are =
-    let parts = and_parts (are_pairs (2 ^ 60) mult) (nat_le (length mult) 4096) are in
-    ((and_parts _ _ parts.0).1, leb-true (length mult) 4096 parts.1)
-
 -- the other pairs decide where the first pair's row is there
 pub rows_go_on : (pool : Pool) (q : ℕ × ℕ) (mult whole : List (ℕ × ℕ)) → q.0 < length pool.rows → has_rows pool (q ∷ mult) ≡ has_rows pool whole → has_rows pool mult ≡ has_rows pool whole
 rows_go_on pool q mult whole there same = sym (ap (λ (t : Bool). t && has_rows pool mult) (lt-ltb q.0 (length pool.rows) there)) ∙ same
-
--- and where it isn't, not all are there
-pub row_missing : (pool : Pool) (q : ℕ × ℕ) (mult whole : List (ℕ × ℕ)) → length pool.rows ≤ q.0 → has_rows pool (q ∷ mult) ≡ has_rows pool whole → false ≡ has_rows pool whole
-row_missing pool q mult whole past same = sym (ap (λ (t : Bool). t && has_rows pool mult) (ge-ltb q.0 (length pool.rows) past)) ∙ same
 
 -- rows that are held are held number by number
 row_of_zip : (town : Town) (sparse : List SparseRow) (rows : List Row) (i : ℕ) (d : SparseRow) (e : Row) → AllZip (IsRow town) sparse rows → i < length sparse → IsRow town (get_or sparse i d) (get_or rows i e)
@@ -79,3 +69,7 @@ weighted_side_held town pool rows (q ∷ mult) holds are =
 pub has_rows_held : (town : Town) (pool : Pool) (rows : List Row) (mult : List (ℕ × ℕ)) → Holds town pool rows → has_rows pool mult ≡ list_all (λ q. nat_lt q.0 (length rows)) mult
 has_rows_held town pool rows mult holds =
     ap (λ (n : ℕ). list_all (λ (q : ℕ × ℕ). nat_lt q.0 n) mult) (sym (AllZip-long (IsRow town) pool.rows rows holds))
+
+-- their numbers are small
+pub small_rows : (town : Town) (pool : Pool) (rows : List Row) → Holds town pool rows → All (IsSmallRow (2 * length town.streets)) pool.rows
+small_rows town pool rows holds k d below = (row_of_zip town pool.rows rows k d (row_at rows k) holds below).small

@@ -1,5 +1,6 @@
 -- What the checker keeps of the records so far, and what it says of one more line.
-use Rattle.std.specs.Prelude.{◌≡◌, ℕ, ◌*◌, false, if◌then◌else◌, int_lt, ℤ, List, [], ◌∷◌, length, Option, None, Some, Result, Ok, Err}
+use Rattle.std.specs.Prelude.{◌≡◌, ℕ, ◌*◌, Bool, false, not, ◌&&◌, ◌==◌, if◌then◌else◌, int_lt, ℤ, pos, List, [], ◌∷◌, length, Option, None, Some, Result, Ok, Err}
+use Rattle.std.specs.Option.{option_map_or}
 use Rattle.std.specs.List.{list_any}
 use Rattle.wrp_town.specs.declared.town.Town.{Town}
 use Rattle.wrp_proof.specs.declared.record.Record.{Record}
@@ -7,7 +8,9 @@ use Rattle.wrp_proof.specs.declared.rule.Rule.{Rule}
 use Rattle.wrp_proof.specs.declared.rule.Rule.TheVariants as rules
 use Rattle.wrp_proof.specs.Rows.{base_rows}
 use Rattle.wrp_proof.specs.Nodes.{Standing, root, with_bound, after, is_below}
-use Rattle.wrp_proof.specs.Rules.{is_labels}
+use Rattle.wrp_proof.specs.declared.record.End.{End}
+use Rattle.wrp_proof.specs.declared.record.End.TheVariants.{Optimal, Infeasible, Unfinished}
+use Rattle.wrp_proof.specs.Rules.{is_labels, int_eq}
 use Rattle.wrp_check.specs.declared.judge.Judge.{Judge}
 use Rattle.wrp_check.specs.declared.bound.Judged.{Judged}
 use Rattle.wrp_check.specs.declared.bound.Judged.TheVariants as judged_as
@@ -32,9 +35,16 @@ abbrev pub Judges : Town → Standing → Result Record Rule → Option Rule →
 Judges town s judged None judge = (item : Record) × (judged ≡ Ok item) × Stands town (after town s item) judge
 Judges town s judged (Some rule) judge = judged ≡ Err rule
 
--- the first rule that a bound of the root breaks, beside the number of the node
-abbrev pub broken_as : Judged → ℤ → Option ℕ → Option Rule
-broken_as judged_as.Missing bound upper = Some rules.Range
-broken_as judged_as.Negative bound upper = if is_below bound upper then Some rules.Later else Some rules.Closed
-broken_as (judged_as.Bound value) bound upper =
-    if is_below bound upper then (if int_lt bound value then None else Some rules.Low) else Some rules.Closed
+-- the new bound of the root, or the first rule that it breaks, beside the number of the node
+abbrev pub bound_or_rule : Judged → ℤ → Option ℕ → Result ℤ Rule
+bound_or_rule judged_as.Missing bound upper = Err rules.Range
+bound_or_rule judged_as.Negative bound upper = if is_below bound upper then Err rules.Later else Err rules.Closed
+bound_or_rule (judged_as.Bound value) bound upper =
+    if is_below bound upper then (if int_lt bound value then Ok value else Err rules.Low) else Err rules.Closed
+
+-- an end agrees with the bound of the root and the cost of the cheapest tour
+abbrev pub agrees_at : ℤ → Option ℕ → End → Bool
+agrees_at bound upper (Optimal cost) = not (is_below bound upper) && option_map_or (λ least. least == cost) upper false
+agrees_at bound upper Infeasible = false
+agrees_at bound upper (Unfinished low high) =
+    is_below bound upper && option_map_or (λ least. least == high) upper false && int_eq (pos low) bound

@@ -5,8 +5,8 @@ use Rattle.wrp_town.specs.declared.town.Town.{Town}
 use Rattle.wrp_proof.specs.declared.record.End.{End}
 use Rattle.wrp_proof.specs.declared.rule.Rule.TheVariants as rules
 use Rattle.wrp_proof.specs.Nodes.{Standing, start}
-use Rattle.wrp_check.specs.declared.check.CheckFault.{CheckFault}
-use Rattle.wrp_check.specs.declared.check.CheckFault.TheVariants as faults
+use Rattle.wrp_check.specs.declared.pass.CheckFault.{CheckFault}
+use Rattle.wrp_check.specs.declared.pass.CheckFault.TheVariants as faults
 use Rattle.wrp_check.specs.declared.judge.Judge.{Judge}
 use Rattle.wrp_check.specs.Streams.{most_bytes, is_one_line, PassesLimit}
 use Rattle.wrp_check.specs.Verdicts.{Verdict, Accepted, is_long, verdict, verdict_on}
@@ -54,3 +54,17 @@ pub record Closes (town : Town) (limit : ℕ) (s : Standing) (number taken : ℕ
   pub took : Took told left piece
   pub empty : Tells left []
   pub said : verdict_on town limit s number taken piece ≡ Accepted end
+
+-- the lines of some records were taken since what stood first, and what is left decides the verdict
+pub record Reaches (town : Town) (limit : ℕ) (first : Standing) (from : ℕ) (told left : Option (List ℕ)) (number now : ℕ) (judge : Judge) : Type 0 where
+  pub piece : List ℕ
+  pub took : Took told left piece
+  pub next : Standing
+  pub stands : Stands town next judge
+  pub same : (rest : List ℕ) → verdict_on town limit first 2 from (piece ++ rest) ≡ verdict_on town limit next number now rest
+
+-- all bytes of the proof, whose verdict is the end
+pub record Whole (town : Town) (told : Option (List ℕ)) (end : End) : Type 0 where
+  pub bytes : List ℕ
+  pub tells : Tells told bytes
+  pub said : verdict town bytes ≡ Accepted end

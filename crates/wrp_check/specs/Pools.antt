@@ -1,10 +1,10 @@
 -- The checker's own rows: sparse, with small numbers, one for each row that stands.
-use Rattle.std.specs.Prelude.{◌≡◌, ℕ, ◌*◌, ◌≤◌, ◌<◌, Bool, true, if◌then◌else◌, nat_lt, ℤ, pos, ◌*ℤ◌, int_le, List, [], length, slice_index_or, unsigned_abs}
+use Rattle.std.specs.Prelude.{◌≡◌, ℕ, ◌*◌, ◌≤◌, ◌<◌, Bool, true, if◌then◌else◌, nat_lt, ℤ, pos, ◌-ℤ◌, ◌*ℤ◌, int_le, List, [], length, slice_index_or, unsigned_abs}
 use Rattle.std.specs.List.{All, AllZip, list_all}
 use Rattle.wrp_sums.specs.Sums.{sum_over, coef_at}
 use Rattle.wrp_sums.specs.Duality.{reduced_cost}
 use Rattle.wrp_town.specs.declared.town.Town.{Town}
-use Rattle.wrp_town.specs.Arcs.{is_legal, legal_arcs}
+use Rattle.wrp_town.specs.Arcs.{is_legal, legal_arcs, cost_or_zero}
 use Rattle.wrp_proof.specs.Rows.{Row}
 use Rattle.wrp_proof.specs.Nodes.{Node, program, bound_value}
 use Rattle.wrp_check.specs.declared.pool.SparseRow.{SparseRow}
@@ -46,6 +46,10 @@ weighted_coef pool mult arc = sum_over (λ q. pos q.1 *ℤ coef_at (sparse_at po
 
 abbrev pub weighted_side : Pool → List (ℕ × ℕ) → ℤ
 weighted_side pool mult = sum_over (λ q. pos q.1 *ℤ (sparse_at pool q.0).side) mult
+
+-- each legal arc costs, times the denominator, at least what the table has for it
+abbrev pub covers : Town → ℕ → List ℤ → Bool
+covers town den left = list_all (λ arc. int_le (pos 0) (pos (den * cost_or_zero town arc) -ℤ slice_index_or left arc (pos 0))) (legal_arcs town)
 
 -- no legal arc has a negative reduced cost
 abbrev pub is_plain : Town → List Row → Node → ℕ → List (ℕ × ℕ) → Bool

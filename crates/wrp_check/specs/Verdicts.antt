@@ -15,8 +15,8 @@ use Rattle.wrp_proof.specs.Judged.{judged_rule}
 use Rattle.wrp_proof.specs.Views.{is_later, has_shape, spelled}
 use Rattle.wrp_proof.specs.Ends.{is_later_end, has_end_shape, spelled_end}
 use Rattle.wrp_proof.specs.Proofs.{version_1, version_2}
-use Rattle.wrp_check.specs.declared.check.CheckFault.{CheckFault}
-use Rattle.wrp_check.specs.declared.check.CheckFault.TheVariants as faults
+use Rattle.wrp_check.specs.declared.pass.CheckFault.{CheckFault}
+use Rattle.wrp_check.specs.declared.pass.CheckFault.TheVariants as faults
 use Rattle.wrp_check.specs.Streams.{most_bytes}
 
 -- the end, the line and its rule, or too long
@@ -84,8 +84,8 @@ verdict_from town limit s number taken line (next ∷ others) =
     if is_long limit taken line (length line + 1) then Long
     else if is_end line then end_verdict number (taken + (length line + 1)) (judged_end s line) next others
     else record_verdict number
-        (λ item. verdict_from town limit (after town s item) (number + 1) (taken + (length line + 1)) next others)
-        (judged_line town s line)
+    (λ item. verdict_from town limit (after town s item) (number + 1) (taken + (length line + 1)) next others)
+    (judged_line town s line)
 
 -- the limit of the lines that a version line sets
 abbrev pub limit_of : Town → List ℕ → Option ℕ

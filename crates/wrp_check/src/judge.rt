@@ -1,17 +1,21 @@
 //! What the checker keeps of the records so far, and its judgement of one more.
-ghost use Rattle.std.specs.Prelude.{◌≡◌, ◌≤◌, ◌^◌, ◌<◌, pos, Some, None, length, IfOk, List, ℕ};
+ghost use Rattle.std.specs.Prelude.{◌≡◌, ◌≤◌, ◌^◌, ◌==◌, true, false, pos, length, IfOk};
+ghost use Rattle.std.specs.Option.{option_map_or};
+ghost use Rattle.wrp_town.specs.declared.town.Town.{Town};
 ghost use Rattle.wrp_proof.specs.declared.record.Record.TheVariants.{Tour, Bound};
 ghost use Rattle.wrp_proof.specs.Nodes.{Standing, start, is_below};
-ghost use Rattle.wrp_proof.specs.Rules.{has_number_rules};
+ghost use Rattle.wrp_proof.specs.Rules.{has_number_rules, int_eq};
 ghost use Rattle.wrp_proof.specs.Judged.{judged_rule};
-ghost use Rattle.wrp_check.specs.Verdicts.{judged_line, unless};
-ghost use Rattle.wrp_check.specs.Judging.{IsReady, Stands, Judges, broken_as};
+ghost use Rattle.wrp_check.specs.Verdicts.{judged_line, judged_end, unless};
+ghost use Rattle.wrp_check.specs.Judging.{IsReady, Stands, Judges, bound_or_rule, agrees_at};
 
 use crate::bound::{Judged, judge_bound};
 use crate::pool::Pool;
 use crate::tour::broken_tour;
 use std::alloc::{AllocError, Global};
-use wrp_proof::{PairsOf, Rule, StepsOf, View, ViewFault, view};
+use wrp_proof::{
+    End, LineFault, PairsOf, Rule, StepsOf, View, ViewFault, is_later_end, read_end, view,
+};
 use wrp_town::Town;
 
 /// The numbers that the checker keeps, with the tables that it works on.
@@ -62,6 +66,28 @@ impl Judge {
         }
     }
 
+    /// The end of an end line, or the rule that the line breaks.
+    pub(crate) fn end(&self, line: &[u8]) -> Result<End, Rule>
+        requires { length line.now ≤ 2 ^ 28 }
+        ensures { (town : Town) (s : Standing) → Stands town s self.now → judged_end s line.now ≡ result }
+    {
+        if is_later_end(line) {
+            return Err(Rule::Later);
+        }
+        match read_end(line) {
+            Ok(end) => {
+                if agrees_with(self.bound, self.upper, end) {
+                    Ok(end)
+                } else {
+                    Err(Rule::End)
+                }
+            }
+            Err(LineFault::Form { .. }) => Err(Rule::Form),
+            Err(LineFault::Number { .. }) => Err(Rule::Number),
+            Err(LineFault::Long | LineFault::Memory) => unreachable!(),
+        }
+    }
+
     /// Takes a tour, or says which rule it breaks.
     fn take_tour(&mut self, town: &Town, cost: u64, steps: &StepsOf<'_>) -> Option<Rule>
         requires ready { IsReady town.now self.old }
@@ -88,26 +114,26 @@ impl Judge {
             return Some(Rule::Range);
         }
         let judged = judge_bound(town, &self.pool, &mut self.shares, den, mult.again());
-        let broken = broken_bound(judged, self.bound, self.upper);
-        if let Judged::Bound(value) = judged
-            && broken.is_none()
-        {
-            self.bound = value;
+        match better_bound(judged, self.bound, self.upper) {
+            Ok(value) => {
+                self.bound = value;
+                None
+            }
+            Err(rule) => Some(rule),
         }
-        broken
     }
 }
 
-/// The first rule that a bound of the root breaks, beside the number of the node.
-fn broken_bound(judged: Judged, bound: i128, upper: Option<u64>) -> Option<Rule>
-    ensures { result ≡ broken_as judged bound upper }
+/// The new bound of the root, or the first rule that it breaks, beside the number of the node.
+fn better_bound(judged: Judged, bound: i128, upper: Option<u64>) -> Result<i128, Rule>
+    ensures { result ≡ bound_or_rule judged bound upper }
 {
     match judged {
-        Judged::Missing => Some(Rule::Range),
-        _ if !is_open(bound, upper) => Some(Rule::Closed),
-        Judged::Negative => Some(Rule::Later),
-        Judged::Bound(value) if value <= bound => Some(Rule::Low),
-        Judged::Bound(_) => None,
+        Judged::Missing => Err(Rule::Range),
+        _ if !is_open(bound, upper) => Err(Rule::Closed),
+        Judged::Negative => Err(Rule::Later),
+        Judged::Bound(value) if value <= bound => Err(Rule::Low),
+        Judged::Bound(value) => Ok(value),
     }
 }
 
@@ -118,5 +144,35 @@ fn is_open(bound: i128, upper: Option<u64>) -> bool
     match upper {
         Some(cost) => bound < i128::from(cost),
         None => true,
+    }
+}
+
+/// Whether the cheapest tour has this cost.
+fn is_cheapest(upper: Option<u64>, cost: u64) -> bool
+    ensures { result ≡ option_map_or (λ least. least == cost) upper false }
+{
+    match upper {
+        Some(least) => least == cost,
+        None => false,
+    }
+}
+
+/// Whether the bound is this number.
+fn is_bound(bound: i128, low: u64) -> bool
+    ensures { result ≡ int_eq (pos low) bound }
+{
+    i128::from(low) <= bound && bound <= i128::from(low)
+}
+
+/// Whether an end agrees with the bound of the root and the cost of the cheapest tour.
+fn agrees_with(bound: i128, upper: Option<u64>, end: End) -> bool
+    ensures { result ≡ agrees_at bound upper end }
+{
+    match end {
+        End::Optimal { cost } => !is_open(bound, upper) && is_cheapest(upper, cost),
+        End::Infeasible => false,
+        End::Unfinished { low, high } => {
+            is_open(bound, upper) && is_cheapest(upper, high) && is_bound(bound, low)
+        }
     }
 }

@@ -3,11 +3,12 @@
 //! It holds one line and its own numbers, never the whole proof.
 #![tactic(auto)]
 
+mod base;
 mod bound;
-mod check;
 mod judge;
 mod lines;
+mod pass;
 mod pool;
 mod tour;
 
-pub use check::CheckFault;
+pub use pass::{CheckFault, check};

@@ -2,9 +2,6 @@
 ghost use Rattle.std.specs.Prelude.{◌≡◌, ℕ, ◌+◌, ◌*◌, ◌^◌, ◌<◌, ◌≤◌, true, pos, ◌+ℤ◌, ◌*ℤ◌, unsigned_abs, length, slice_index_or, is_some, OnSome, IfSome};
 ghost use Rattle.std.specs.List.{All};
 ghost use Rattle.wrp_sums.specs.Sums.{coef_at};
-ghost use Rattle.std.specs.Prelude.{IfOk};
-ghost use Rattle.wrp_check.specs.Pools.{Holds};
-ghost use Rattle.wrp_proof.specs.Rows.{base_rows};
 ghost use Rattle.wrp_proof.specs.Rules.{are_multipliers};
 ghost use Rattle.wrp_check.specs.Pools.{IsSmallTerm, IsSmallRow, sparse_at, has_rows, weighted_coef, weighted_side};
 
@@ -25,13 +22,6 @@ pub(crate) struct Pool {
 }
 
 impl Pool {
-    /// STUB
-    pub(crate) fn new(alloc: std::alloc::Global, town: &wrp_town::Town) -> Result<Pool, std::alloc::AllocError>
-        ensures { IfOk result (λ pool. Holds town.now pool (base_rows town.now)) }
-    {
-        Ok(Pool { rows: List::new(alloc) })
-    }
-
     /// The number of rows.
     pub(crate) fn len(&self) -> usize
         ensures { result ≡ length self.now.rows }
@@ -107,11 +97,11 @@ fn clear(left: &mut [i128])
 pub(crate) fn weigh(pool: &Pool, mult: PairsOf<'_>, left: &mut [i128]) -> Option<i128>
     requires small { All (IsSmallRow (length left.old)) pool.now.rows }
     requires multipliers { are_multipliers (2 ^ 60) mult ≡ true }
-    ensures there { is_some result ≡ has_rows pool.now mult }
+    ensures there { is_some result ≡ has_rows pool.now mult.entry }
     ensures exact { OnSome result ((arc : ℕ) → arc < length left.old
-        → slice_index_or left.new arc (pos 0) ≡ weighted_coef pool.now mult arc) }
+        → slice_index_or left.new arc (pos 0) ≡ weighted_coef pool.now mult.entry arc) }
     ensures size { OnSome result ((arc : ℕ) → unsigned_abs (slice_index_or left.new arc (pos 0)) ≤ 2 ^ 106) }
-    ensures side { IfSome result (λ sides. sides ≡ weighted_side pool.now mult) }
+    ensures side { IfSome result (λ sides. sides ≡ weighted_side pool.now mult.entry) }
     ensures side_size { IfSome result (λ sides. unsigned_abs sides ≤ 2 ^ 92) }
 {
     clear(left);

@@ -7,3 +7,4 @@ pub mod StepLists
 pub mod PairLists
 pub mod LineLaws
 pub mod EndLaws
+pub mod SpelledLaws

@@ -3,3 +3,4 @@ pub mod Places
 pub mod RowSteps
 pub mod RowFacts
 pub mod TownSteps
+pub mod Spelling

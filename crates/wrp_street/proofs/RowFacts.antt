@@ -17,7 +17,7 @@ bind_ok (Ok x) f y is = (x, refl, is)
 bind_ok (Err fault) f y is = absurd (cc)
 
 -- a test that let a value through
-chosen_ok : {A : Type 0} (b : Bool) (read : Result A TableFault) (fault : TableFault) (y : A) → cond b read (Err fault) ≡ Ok y → (b ≡ true) × (read ≡ Ok y)
+pub chosen_ok : {A : Type 0} (b : Bool) (read : Result A TableFault) (fault : TableFault) (y : A) → cond b read (Err fault) ≡ Ok y → (b ≡ true) × (read ≡ Ok y)
 chosen_ok true read fault y is = (refl, is)
 chosen_ok false read fault y is = absurd (cc)
 

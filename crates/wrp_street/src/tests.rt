@@ -14,13 +14,18 @@ fn with_header(alloc: Global, rows: &[u8]) -> Result<Vec<u8>, AllocError> {
     Ok(bytes)
 }
 
+// What is wrong with these bytes.
+fn fault_in(alloc: Global, bytes: &[u8]) -> Option<TableFault> {
+    match read_town(alloc, bytes) {
+        Ok(_) => None,
+        Err(fault) => Some(fault),
+    }
+}
+
 // What is wrong with these rows behind a header.
 fn fault_of(alloc: Global, rows: &[u8]) -> Result<Option<TableFault>, AllocError> {
     let bytes = with_header(alloc, rows)?;
-    match read_town(alloc, bytes.as_slice()) {
-        Ok(_) => Ok(None),
-        Err(fault) => Ok(Some(fault)),
-    }
+    Ok(fault_in(alloc, bytes.as_slice()))
 }
 
 // What is wrong with so many rows that are alike.
@@ -107,9 +112,10 @@ fn names_first_faults(rt: HostRuntime) -> Result<(), Fail> {
     ] {
         assert_eq!(rt; fault_of(alloc, rows)?, Some(want));
     }
-    assert!(rt; read_town(alloc, b"").is_err(), "no header");
-    assert!(rt;
-        read_town(alloc, b"a,b,c,1,1,no\n").is_err(),
+    assert_eq!(rt; fault_in(alloc, b""), Some(TableFault::Header), "no header");
+    assert_eq!(rt;
+        fault_in(alloc, b"a,b,c,1,1,no\n"),
+        Some(TableFault::Header),
         "a row in its place"
     );
     Ok(())

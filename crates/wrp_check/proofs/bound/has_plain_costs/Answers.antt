@@ -1,4 +1,4 @@
-use Rattle.std.proofs.Common.{◌≡◌, ℕ, ◌+◌, ◌-◌, ◌*◌, pos, ◌-ℤ◌, int_le, length, get_or, filter, FitsSigned, arith, true, sym, ◌∙◌}
+use Rattle.std.proofs.Common.{◌*◌, pos, ◌-ℤ◌, int_le, get_or, FitsSigned, arith, sym, ◌∙◌}
 use Rattle.std.specs.Int.{w128}
 use Rattle.std.proofs.lemmas.Int.{to_z-of_z}
 use Rattle.wrp_sums.proofs.Integers.{casts}

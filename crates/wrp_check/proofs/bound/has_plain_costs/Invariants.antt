@@ -1,4 +1,4 @@
-use Rattle.std.proofs.Common.{◌≡◌, ℕ, ◌-◌, ◌*◌, pos, ◌-ℤ◌, int_le, length, get_or, filter}
+use Rattle.std.proofs.Common.{◌≡◌, ◌-◌, ◌*◌, pos, ◌-ℤ◌, int_le, get_or, filter}
 use Rattle.std.specs.List.{list_all, range_with_len}
 use Rattle.wrp_town.specs.Arcs.{is_legal, legal_arcs, cost_or_zero}
 use Rattle.wrp_check.proofs.bound.has_plain_costs.Given as goal

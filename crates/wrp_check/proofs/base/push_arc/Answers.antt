@@ -1,0 +1,12 @@
+use Rattle.std.proofs.lemmas.Result.{on_ok_weaker}
+use Rattle.wrp_check.proofs.Balances.{balances_step}
+use Rattle.wrp_check.proofs.base.push_arc.Goals as goal
+
+pub returns : goal.returns
+returns c =
+    on_ok_weaker c.push_term-2.result
+    (λ second.
+    balances_step c.args.town.now c.args.arc c.tail-tail.result c.head-head.result c.args.rows.now c.push_term.new.rows c.push_term-2.new.rows
+    c.requires.below c.requires.before c.tail-tail.ensures.value c.head-head.ensures.value c.tail-tail.ensures.junction c.head-head.ensures.junction
+    c.in_ok-push_term.ensures second c.push_term.auto.rows c.push_term-2.auto.rows)
+    c.push_term-2.ensures

@@ -1,0 +1,17 @@
+use Rattle.std.proofs.Common.{◌≡◌, [], None, refl, ap}
+use Rattle.wrp_check.proofs.Passing.{fresh, whole_answer, end_answer, fault_answer}
+use Rattle.wrp_check.proofs.pass.judge_proof.Goals as goal
+
+pub returns-clause-whole : goal.returns-clause-whole
+returns-clause-whole g c =
+    let bare : c.in_ok-lines.lines.pending ≡ [] = ap (λ reading. reading.pending) c.in_ok-lines.ensures in
+    whole_answer c.args.town.now c.in-Ok.limit _ _ _ c.read_version.new.lines.taken c.in_ok-judge.judge c.judge_lines.result c.in_ok-judge.ensures _ (fresh _ c.in_ok-lines.lines bare) c.in-Ok.ensures.begins c.judge_lines.ensures.closes
+
+pub returns-clause-end : goal.returns-clause-end
+returns-clause-end g c =
+    end_answer c.args.town.now c.in-Ok.limit None _ _ c.read_version.new.lines.taken c.in_ok-judge.judge c.judge_lines.result c.in_ok-judge.ensures _ c.judge_lines.new.lines refl c.judge_lines.ensures.closes
+
+pub returns-clause-fault : goal.returns-clause-fault
+returns-clause-fault g c =
+    let bare : c.in_ok-lines.lines.pending ≡ [] = ap (λ reading. reading.pending) c.in_ok-lines.ensures in
+    fault_answer c.args.town.now c.in-Ok.limit _ _ None c.read_version.new.lines.taken c.in_ok-judge.judge c.judge_lines.result c.in_ok-judge.ensures _ (fresh _ c.in_ok-lines.lines bare) c.in-Ok.ensures.begins c.judge_lines.ensures.fault
