@@ -3,3 +3,7 @@ pub mod Places
 pub mod RowSteps
 pub mod RowFacts
 pub mod TownSteps
+pub mod FieldsBack
+pub mod TownBack
+pub mod TextSize
+pub mod TextSteps

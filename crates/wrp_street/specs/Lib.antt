@@ -2,3 +2,4 @@ pub mod Faults
 pub mod Rows
 pub mod Tables
 pub mod Growing
+pub mod Canonical
