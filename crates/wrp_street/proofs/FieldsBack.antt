@@ -1,5 +1,5 @@
 -- The fields of a street that was written are read back.
-use Rattle.std.proofs.Common.{◌≡◌, ℕ, zero, suc, ◌+◌, ◌-◌, ◌<◌, ◌≤◌, ◌^◌, ◌==◌, Bool, true, false, ◌&&◌, List, [], ◌∷◌, length, get_or, Option, Some, None, nat_le, nat_lt, ap, refl, ◌∙◌, lit<, arith}
+use Rattle.std.proofs.Common.{◌≡◌, ℕ, zero, suc, ◌-◌, ◌<◌, ◌≤◌, ◌^◌, ◌==◌, Bool, true, false, ◌&&◌, List, [], ◌∷◌, length, get_or, Option, Some, None, nat_le, nat_lt, ap, refl, ◌∙◌, arith}
 use Rattle.std.specs.Prelude.{Ok, not}
 use Rattle.std.proofs.lemmas.Bool.{and_parts, leb-true}
 use Rattle.std.proofs.lemmas.Bool.Decides.{nat_tests}
@@ -7,10 +7,10 @@ use Rattle.std.proofs.lemmas.Fmt.{digits_decimal}
 use Rattle.std.proofs.lemmas.List.Folds.{list_all_at}
 use Rattle.std.proofs.lemmas.Str.Parse.{digit_from_value, numerals_by_value, tells_digits}
 use Rattle.std.specs.Fmt.{decimal}
-use Rattle.std.specs.List.{list_all, slice_index_or}
+use Rattle.std.specs.List.{list_all}
 use Rattle.std.specs.Str.{is_utf8}
 use Rattle.std.specs.Str.Parse.{AllDigits}
-use Rattle.wrp_records.specs.Fields.{is_blank, trim_start, trim_end, trimmed, cost_of}
+use Rattle.wrp_records.specs.Fields.{is_blank, trim_start, trim_end, trimmed}
 use Rattle.wrp_records.specs.Lines.{is_printed, is_line}
 use Rattle.wrp_records.proofs.Costs.{cost_of-dash, cost_of-decimal}
 use Rattle.wrp_town.specs.declared.street.Need.{Need}
@@ -20,7 +20,7 @@ use Rattle.wrp_town.specs.Names.{is_plain, is_short_and_plain, has_bare_ends, is
 use Rattle.wrp_town.specs.Streets.{is_cost}
 use Rattle.wrp_town.proofs.TownLaws.{IsSound}
 use Rattle.wrp_street.specs.declared.row.Row.{Row}
-use Rattle.wrp_street.specs.Rows.{name_in, cost_in, need_of, need_in, found_or, six_of, row_of}
+use Rattle.wrp_street.specs.Rows.{name_in, cost_in, need_in, six_of, row_of}
 use Rattle.wrp_street.specs.Canonical.{text_of_cost, text_of_need, name_at, fields_of_street}
 use Rattle.wrp_street.proofs.TownSteps.{not_true}
 

@@ -7,7 +7,7 @@ use Rattle.wrp_town.specs.declared.street.Street.{Street}
 use Rattle.wrp_town.specs.declared.town.Town.{Town}
 use Rattle.wrp_town.specs.Streets.{is_street}
 use Rattle.wrp_town.proofs.TownLaws.{IsSound, IsSound-from_is_street}
-use Rattle.wrp_street.specs.Canonical.{fields_of_street, records_in, canonical_of}
+use Rattle.wrp_street.specs.Canonical.{fields_of_street, canonical_of}
 use Rattle.wrp_street.proofs.FieldsBack.{all_at}
 
 -- the street of this number, as a loop over the items reads it

@@ -1,7 +1,7 @@
 -- A town that was written is read back, street by street.
-use Rattle.std.proofs.Common.{◌≡◌, ℕ, zero, suc, ◌+◌, ◌<◌, ◌≤◌, ◌==◌, Bool, true, false, not, cond, ◌||◌, List, [], ◌∷◌, ◌++◌, length, get_or, take, map, nat_le, nat_lt, ap, refl, sym, ◌∙◌, subst, arith, append_assoc, add-one, length-append}
-use Rattle.std.specs.Prelude.{max, if◌then◌else◌, Ok}
-use Rattle.std.specs.List.{list_all, list_any, position_or_len}
+use Rattle.std.proofs.Common.{◌≡◌, ℕ, zero, suc, ◌+◌, ◌<◌, ◌≤◌, Bool, true, false, not, List, [], ◌∷◌, ◌++◌, length, get_or, take, map, nat_le, nat_lt, ap, refl, sym, ◌∙◌, arith, append_assoc, length-append}
+use Rattle.std.specs.Prelude.{max, Ok}
+use Rattle.std.specs.List.{list_all, list_any}
 use Rattle.std.specs.Str.{bytes_eq}
 use Rattle.std.specs.Cmp.Lexicographic.{nat_list_eq_equiv}
 use Rattle.std.proofs.lemmas.Bool.{and_parts, eqb-true, leb-true, ltb-true, ltb-false, le-ltb}
@@ -9,19 +9,17 @@ use Rattle.std.proofs.lemmas.List.{append-nil, length-take-le}
 use Rattle.std.proofs.Math.Seq.{take-suc, take-length}
 use Rattle.wrp_records.specs.Fields.{trim_start, trim_end}
 use Rattle.wrp_records.specs.Headers.{columns, is_header}
-use Rattle.wrp_records.specs.Lines.{is_line, lines_text}
-use Rattle.wrp_records.specs.Streams.{records_of}
+use Rattle.wrp_records.specs.Lines.{is_line}
 use Rattle.wrp_records.proofs.ReadBack.{records_of-lines}
 use Rattle.wrp_town.specs.declared.street.Street.{Street}
 use Rattle.wrp_town.specs.declared.town.Town.{Town}
 use Rattle.wrp_town.specs.Names.{is_name}
-use Rattle.wrp_town.specs.Streets.{IsTown, are_different, come_in_order, demands_at, demands_from, ends_of, is_street}
+use Rattle.wrp_town.specs.Streets.{are_different, come_in_order, demands_at, demands_from, ends_of, is_street}
 use Rattle.wrp_town.proofs.TownLaws.{IsSound, IsSound-from_is_street}
 use Rattle.wrp_street.specs.Faults.{◌>>=◌}
-use Rattle.wrp_street.specs.Rows.{row_of}
-use Rattle.wrp_street.specs.Tables.{Table, no_rows, with_junction, with_row, number_of, next_row, within_limits, with_record, with_records, under_header, table_in, IsTable}
+use Rattle.wrp_street.specs.Tables.{Table, no_rows, with_junction, with_row, number_of, next_row, within_limits, with_record, with_records, under_header, IsTable}
 use Rattle.wrp_street.specs.Canonical.{name_at, fields_of_street, records_in, canonical_of}
-use Rattle.wrp_street.proofs.Places.{equal_itself}
+use Rattle.wrp_street.proofs.Places.{equal_itself, or_true}
 use Rattle.wrp_street.proofs.TownSteps.{not_true, or_false}
 use Rattle.wrp_street.proofs.FieldsBack.{row_at, row_back, line_of_street}
 
@@ -40,10 +38,6 @@ later name names i different below =
 
 different_rest : (name : List ℕ) (names : List (List ℕ)) → are_different (name ∷ names) ≡ true → are_different names ≡ true
 different_rest name names different = (and_parts (not (list_any (bytes_eq name) names)) (are_different names) different).1
-
-or_true : (a b : Bool) → b ≡ true → (a || b) ≡ true
-or_true true b is = refl
-or_true false b is = is
 
 any_before : (names : List (List ℕ)) (i m : ℕ) → i < m → i < length names → list_any (bytes_eq (name_at names i)) (take m names) ≡ true
 any_before [] i m before below = absurd (omega arith)

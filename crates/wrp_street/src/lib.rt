@@ -1,13 +1,11 @@
 //! Reads a street table into a town, and writes a town as one.
 #![tactic(auto)]
 
-
 mod junctions;
 mod reader;
 mod row;
 mod table;
 mod writer;
-
 
 pub use reader::read_town;
 pub use table::TableFault;

@@ -38,14 +38,10 @@ fn need_text(need: Need) -> &'static str
 fn push_header(out: &mut Vec<u8>) -> Result<(), AllocError>
     ensures { OnOk result (out.new.items ≡ out.old.items ++ line_text columns) }
 {
-    push_line(out, &[
-        b"street",
-        b"from",
-        b"to",
-        b"forward",
-        b"backward",
-        b"need",
-    ])
+    push_line(
+        out,
+        &[b"street", b"from", b"to", b"forward", b"backward", b"need"],
+    )
 }
 
 // Writes a row of these six fields. After want of memory a part of it may stand.
@@ -65,7 +61,12 @@ fn push_row<'a>(
 }
 
 // Writes a street whose ends are junctions of the town. After want of memory a part of it may stand.
-fn push_street(alloc: Global, out: &mut Vec<u8>, town: &Town, street: &Street) -> Result<(), AllocError>
+fn push_street(
+    alloc: Global,
+    out: &mut Vec<u8>,
+    town: &Town,
+    street: &Street,
+) -> Result<(), AllocError>
     requires from { street.now.from < length town.now.junctions }
     requires to { street.now.to < length town.now.junctions }
     ensures { OnOk result (out.new.items ≡ out.old.items ++ line_text (fields_of_street town.now.junctions street.now)) }
