@@ -4,3 +4,7 @@ pub mod RowSteps
 pub mod RowFacts
 pub mod TownSteps
 pub mod Spelling
+pub mod FieldsBack
+pub mod TownBack
+pub mod TextSize
+pub mod TextSteps

@@ -52,7 +52,7 @@ pub record IsPlaced (name : List ℕ) (names more : List (List ℕ)) : Type 0 wh
   pub at_most : number_of names name ≤ length names
   pub grows : max (length names) (number_of names name + 1) ≡ length more
 
-or_true : (a b : Bool) → b ≡ true → (a || b) ≡ true
+pub or_true : (a b : Bool) → b ≡ true → (a || b) ≡ true
 or_true true b is = refl
 or_true false b is = is
 

@@ -3,3 +3,4 @@ pub mod Rows
 pub mod Tables
 pub mod Growing
 pub mod Spelled
+pub mod Canonical

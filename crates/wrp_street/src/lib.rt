@@ -1,4 +1,4 @@
-//! Reads a street table into a town.
+//! Reads a street table into a town, and writes a town as one.
 #![tactic(auto)]
 
 mod junctions;
@@ -6,11 +6,13 @@ mod laws;
 mod reader;
 mod row;
 mod table;
+mod writer;
 
 pub use laws::table_laws;
 pub use reader::read_town;
 pub use table::TableFault;
-pub use wrp_town::{List, Name, Need, Step, Street, Town};
+pub use writer::canonical;
+pub use wrp_town::{Class, List, Name, Need, Step, Street, Town, class_of};
 
 #[cfg(test)]
 mod tests;

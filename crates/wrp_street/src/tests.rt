@@ -1,6 +1,6 @@
 // What no clause says: that the definitions read a table as its author means it.
 
-use crate::{Need, TableFault, Town, read_town};
+use crate::{Class, Need, TableFault, Town, canonical, class_of, read_town};
 use std::alloc::{AllocError, Global};
 use std::test::Fail;
 
@@ -164,5 +164,28 @@ fn counts_junctions(rt: HostRuntime) -> Result<(), Fail> {
         Some(TableFault::Junctions { row: 1_001 }),
         "two more"
     );
+    Ok(())
+}
+
+#[test]
+fn writes_what_it_reads(rt: HostRuntime) -> Result<(), Fail> {
+    let alloc = rt.alloc();
+    let bytes = with_header(
+        alloc,
+        b"Quay, Mole ,\"Pier, \"\"A\"\"\",007,,1\n\"The \"\"Lane\"\"\",\"Pier, \"\"A\"\"\",Mole,-,12,backward\r\n",
+    )?;
+    let want = with_header(
+        alloc,
+        b"Quay,Mole,\"Pier, \"\"A\"\"\",7,-,yes\n\"The \"\"Lane\"\"\",\"Pier, \"\"A\"\"\",Mole,-,12,backward\n",
+    )?;
+    match read_town(alloc, bytes.as_slice()) {
+        Ok(town) => {
+            let table = canonical(alloc, &town)?;
+            assert!(rt; table.as_slice() == want.as_slice(), "the table");
+            assert!(rt; read_town(alloc, table.as_slice()).is_ok(), "read back");
+            assert!(rt; class_of(&town) == Class::Directed, "one-way streets");
+        }
+        Err(fault) => assert!(rt; false, "{fault}"),
+    }
     Ok(())
 }

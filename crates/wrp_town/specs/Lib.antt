@@ -2,3 +2,4 @@ pub mod Names
 pub mod Streets
 pub mod Arcs
 pub mod Walks
+pub mod Classes

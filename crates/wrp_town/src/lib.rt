@@ -4,6 +4,7 @@
 //! its second) and `2 * s + 1` (back). An arc is legal exactly where its cost stands.
 #![tactic(auto)]
 
+mod class;
 mod list;
 mod name;
 mod size;
@@ -11,6 +12,7 @@ mod street;
 mod town;
 mod walk;
 
+pub use class::{Class, class_of};
 pub use list::List;
 pub use name::Name;
 pub use size::{demand_count, small};
