@@ -3,6 +3,7 @@
 
 mod command;
 mod input;
+mod run;
 mod status;
 mod text;
 mod words;
