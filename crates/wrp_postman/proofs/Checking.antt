@@ -1,5 +1,8 @@
 -- What is read and judged decides the status of a check.
 use Rattle.std.proofs.Common.{◌≡◌, ℕ, ◌≤◌, ◌<◌, ◌^◌, Bool, true, false, nat_lt, List, length, Option, None, Some, IfSome, Result, Ok, Err, refl, sym, ◌∙◌, ap, subst, arith}
+use Rattle.std.proofs.Math.Bool.{Bool-set}
+use Rattle.std.proofs.Math.Bridge.{le_prop}
+use Rattle.std.proofs.lemmas.Bool.{le-ltb}
 use Rattle.wrp_out.specs.Told.{Tells}
 use Rattle.wrp_town.specs.declared.town.Town.{Town}
 use Rattle.wrp_town.specs.declared.street.Street.{Street}
@@ -15,7 +18,7 @@ use Rattle.wrp_postman.specs.Runs.{AnswersVerdict, AnswersTable, AnswersLength, 
 
 -- there is one proof at most that streets make a town
 town_once : (junctions : List (List ℕ)) (streets : List Street) → IsProp (IsTown junctions streets)
-town_once junctions streets = hlevel
+town_once junctions streets = hlevel (le_prop, Bool-set)
 
 -- a town is its junctions and its streets
 town_of_table : (table : Table) → IsTown table.junctions table.streets → Town
@@ -30,7 +33,7 @@ unfolding town_of_table
 same_town a b e = same_made (table_in a) (table_in b) a.well_formed b.well_formed e
 
 not_long : (n : ℕ) → n ≤ table_bytes → nat_lt table_bytes n ≡ false
-not_long n h = ?
+not_long n h = le-ltb table_bytes n h
 
 -- the table is that of the town, and the proof is judged over it
 pub check_answers : (streets proof : Option (List ℕ)) (bytes : List ℕ) (town : Town) (status : Status) → Tells streets bytes → length bytes ≤ table_bytes → table_of bytes ≡ Ok (table_in town) → IfSome proof (λ text. AnswersVerdict (verdict town text) status) → AnswersCheck streets proof status

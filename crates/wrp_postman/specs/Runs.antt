@@ -76,3 +76,12 @@ abbrev pub Told : Status → Status → Option (List ℕ) → Option (List ℕ) 
 Told status answer old new faults_old faults_new empties_old empties_new =
     ((answer ≡ status) × Gained old new (status_line status))
     ⊎ ((answer ≡ after_fault status) × GainedPrefix old new (status_line status) × (Rose faults_old faults_new ⊎ Rose empties_old empties_new))
+
+-- the line of the answer was written, whole where it is an acceptance; or a part of it, where a write failed or took nothing;
+-- a write fault is that of an acceptance
+abbrev pub IsWritten : Status → Option (List ℕ) → Option (List ℕ) → ℕ → ℕ → ℕ → ℕ → Type 0
+IsWritten (Accepted end) old new faults_old faults_new empties_old empties_new = Gained old new (status_line (Accepted end))
+IsWritten WriteFault old new faults_old faults_new empties_old empties_new = (end : End) × GainedPrefix old new (status_line (Accepted end))
+IsWritten status old new faults_old faults_new empties_old empties_new =
+    Gained old new (status_line status)
+    ⊎ (GainedPrefix old new (status_line status) × (Rose faults_old faults_new ⊎ Rose empties_old empties_new))

@@ -10,7 +10,7 @@ ghost use Rattle.wrp_check.specs.Verdicts.{verdict};
 ghost use Rattle.wrp_postman.specs.declared.status.Status.{Status};
 ghost use Rattle.wrp_postman.specs.declared.status.Status.TheVariants as answers;
 ghost use Rattle.wrp_postman.specs.Words.{Check, command_of};
-ghost use Rattle.wrp_postman.specs.Runs.{IsAccepted, AnswersVerdict, AnswersCheck, status_line, Told, IsOfCheck};
+ghost use Rattle.wrp_postman.specs.Runs.{IsAccepted, AnswersVerdict, AnswersCheck, status_line, Told, IsOfCheck, IsWritten};
 ghost use Rattle.wrp_postman.specs.declared.input.InputFault.TheVariants as inputs;
 
 use crate::command::Names;
@@ -105,5 +105,47 @@ fn check_files<S: Source, P: Source>(alloc: Global, streets: &mut S, proof: &mut
         Ok(town) => check_proof(alloc, &town, proof),
         Err(TableFault::Memory) => Status::Memory,
         Err(fault) => Status::TableRefused { fault },
+    }
+}
+
+/// Runs the command that the words are, over its sources, and writes its text or the line of its status to `out`.
+///
+/// A command calls only its own objects: words that are no command call `out` alone.
+pub fn postman<S: Source, P: Source, O: Sink>(
+    alloc: Global,
+    words: &[String],
+    streets: &mut S,
+    proof_in: &mut P,
+    out: &mut O,
+) -> Status
+    // An accepted proof: the streets are the table of a town, the proof proves the end, and the end is true.
+    ensures accepted { (end : End) → result ≡ answers.Accepted end
+        → IsAccepted (S.left streets.old) (P.left proof_in.old) end }
+
+    // Usage comes where the words are no command, and then nothing is read.
+    ensures usage { result ≡ answers.Usage → command_of (map string_bytes words.now) ≡ None }
+    ensures no_command { command_of (map string_bytes words.now) ≡ None
+        → (result ≡ answers.Usage) ⊎ (result ≡ answers.Memory) }
+    ensures untouched { command_of (map string_bytes words.now) ≡ None
+        → (streets.new ≡ streets.old) × (proof_in.new ≡ proof_in.old) }
+
+    // Each status of a check is the one that the told bytes lead to.
+    ensures check { (first second : List ℕ) → command_of (map string_bytes words.now) ≡ Some (Check first second)
+        → AnswersCheck (S.left streets.old) (P.left proof_in.old) result }
+    ensures read { result ≡ answers.ReadFault → Rose (S.faults streets.old) (S.faults streets.new)
+        ⊎ Rose (P.faults proof_in.old) (P.faults proof_in.new) }
+    ensures write { result ≡ answers.WriteFault → Rose (O.faults out.old) (O.faults out.new)
+        ⊎ Rose (O.empties out.old) (O.empties out.new) }
+
+    // The line of the status was written, or a part of it where a write failed or took nothing.
+    ensures line { IsWritten result (O.written out.old) (O.written out.new)
+        (O.faults out.old) (O.faults out.new) (O.empties out.old) (O.empties out.new) }
+{
+    match names(words) {
+        Some(Names::Check { .. }) => {
+            let status = check_files(alloc, streets, proof_in);
+            tell(alloc, out, status)
+        }
+        None => tell(alloc, out, Status::Usage),
     }
 }

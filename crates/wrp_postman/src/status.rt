@@ -54,9 +54,13 @@ pub enum LogCause {
 #[derive(Clone, Copy, Debug, PartialEq, Eq)]
 pub enum Status {
     /// The least cost of a tour was found.
-    Optimal { cost: u64 },
+    Optimal {
+        cost: u64,
+    },
     /// The proof was accepted, with this end.
-    Accepted { end: End },
+    Accepted {
+        end: End,
+    },
     /// The text was written.
     Done,
     /// The budget was spent before the least cost was found.
@@ -69,11 +73,16 @@ pub enum Status {
     /// There is no tour.
     Infeasible,
     /// This line of the proof, counted from 1, breaks the rule.
-    ProofRefused { line: u64, rule: Rule },
+    ProofRefused {
+        line: u64,
+        rule: Rule,
+    },
     /// The words are no command.
     Usage,
     /// The street table has this fault first.
-    TableRefused { fault: TableFault },
+    TableRefused {
+        fault: TableFault,
+    },
     /// An input could not be read.
     ReadFault,
     /// An output could not be written.
@@ -81,15 +90,24 @@ pub enum Status {
     /// The disk failed.
     DiskFault,
     /// The log was refused.
-    LogRefused { cause: LogCause },
+    LogRefused {
+        cause: LogCause,
+    },
     /// The log would pass the disk's limit.
-    LogFull { length: u64, limit: u64 },
+    LogFull {
+        length: u64,
+        limit: u64,
+    },
     /// An input is too long.
     TooLong,
     /// The stops were refused.
-    StopsRefused { fault: VisitFault },
+    StopsRefused {
+        fault: VisitFault,
+    },
     /// The bans were refused.
-    BansRefused { fault: TurnFault },
+    BansRefused {
+        fault: TurnFault,
+    },
     /// No memory was found.
     Memory,
 }

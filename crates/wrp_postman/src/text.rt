@@ -10,7 +10,8 @@ use wrp_proof::{End, Rule};
 use wrp_street::TableFault;
 
 /// The commands and their words.
-const USAGE: &str = "usage: solve STREETS PROOF LOG BUDGET | resume STREETS PROOF LOG BUDGET | check STREETS PROOF | info STREETS | town SEED W H | demo SEED W H BUDGET | expand STREETS STOPS | visit STREETS STOPS PROOF LOG BUDGET | unfold STREETS BANS | turns STREETS BANS PROOF LOG BUDGET";
+const USAGE: &str =
+    "usage: solve STREETS PROOF LOG BUDGET | resume STREETS PROOF LOG BUDGET | check STREETS PROOF | info STREETS | town SEED W H | demo SEED W H BUDGET | expand STREETS STOPS | visit STREETS STOPS PROOF LOG BUDGET | unfold STREETS BANS | turns STREETS BANS PROOF LOG BUDGET";
 
 /// A rule's name.
 fn rule_name(rule: Rule) -> &'static str
