@@ -1,5 +1,6 @@
 pub mod NumberTexts
 pub mod Cutting
+pub mod Digits
 pub mod Written
 pub mod WrittenPairs
 pub mod Spacing

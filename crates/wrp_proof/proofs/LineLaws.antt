@@ -28,14 +28,14 @@ tails a xs ys h = cc
 first : {xs ys : List ℕ} → xs ≡ ys → get_or xs 0 0 ≡ get_or ys 0 0
 first h = ap (λ bytes. get_or bytes 0 0) h
 
--- a number below 2 ^ 64 has no space in its text
-number-solid : (n : ℕ) → n < 2 ^ 64 → is_solid (decimal n) ≡ true
+-- a number below 10 ^ 64 has no space in its text
+number-solid : (n : ℕ) → n < 10 ^ 64 → is_solid (decimal n) ≡ true
 number-solid n small = digits-solid (decimal n) (number_digits (decimal n) (text-number n small).0).1
 
-count-small : (n : ℕ) → is_count n ≡ true → n < 2 ^ 64
+count-small : (n : ℕ) → is_count n ≡ true → n < 10 ^ 64
 count-small n h = let small : n < 2 ^ 63 = ltb-true n (2 ^ 63) h in omega arith
 
-den-small : (n : ℕ) → is_from_one (2 ^ 40) n ≡ true → n < 2 ^ 64
+den-small : (n : ℕ) → is_from_one (2 ^ 40) n ≡ true → n < 10 ^ 64
 den-small n h = let small : n ≤ 2 ^ 40 = leb-true n (2 ^ 40) (and_parts (nat_le 1 n) (nat_le n (2 ^ 40)) h).1 in omega arith
 
 tour-text : (parts : List (List ℕ)) → are_tour_parts parts ≡ true → line_of (tour_of parts) ≡ 116 ∷ spread parts

@@ -14,19 +14,19 @@ use Rattle.wrp_proof.proofs.WrittenPairs.{number_digits, pair-text, text-pair}
 use Rattle.wrp_proof.proofs.Spacing.{is_solid, digits-solid}
 
 -- pairs that are read are written as their parts
-pub pairs-text : (most : ℕ) (parts : List (List ℕ)) → most < 2 ^ 63 → list_all (is_pair most) parts ≡ true → map pair_text (map pair_of parts) ≡ parts
+pub pairs-text : (most : ℕ) (parts : List (List ℕ)) → most < 2 ^ 99 → list_all (is_pair most) parts ≡ true → map pair_text (map pair_of parts) ≡ parts
 pairs-text most [] small h = refl
 pairs-text most (part ∷ parts) small h =
     let both = and_parts (is_pair most part) (list_all (is_pair most) parts) h in
     ap (λ first. first ∷ map pair_text (map pair_of parts)) (pair-text most part small both.0) ∙ ap (λ others. part ∷ others) (pairs-text most parts small both.1)
 
 -- the same, joined by spaces
-pub pairs-joined : (most : ℕ) (left bytes : List ℕ) (space : ℕ) → most < 2 ^ 63 → list_all (is_pair most) (parts_of left) ≡ true → left ≡ space ∷ bytes → bytes ≡ join_with_byte 32 (map pair_text (map pair_of (parts_of left)))
+pub pairs-joined : (most : ℕ) (left bytes : List ℕ) (space : ℕ) → most < 2 ^ 99 → list_all (is_pair most) (parts_of left) ≡ true → left ≡ space ∷ bytes → bytes ≡ join_with_byte 32 (map pair_text (map pair_of (parts_of left)))
 pairs-joined most left bytes space small h e =
     sym (ap (join_with_byte 32) (pairs-text most (parts_of left) small h) ∙ ap (λ xs. join_with_byte 32 (parts_of xs)) e ∙ join_with_byte-slice_split 32 bytes)
 
 -- the text of a pair has no space
-pair_text-solid : (most : ℕ) (pair : ℕ × ℕ) → most < 2 ^ 63 → is_index pair.0 ≡ true → is_from_one most pair.1 ≡ true → is_solid (pair_text pair) ≡ true
+pair_text-solid : (most : ℕ) (pair : ℕ × ℕ) → most < 2 ^ 99 → is_index pair.0 ≡ true → is_from_one most pair.1 ≡ true → is_solid (pair_text pair) ≡ true
 pair_text-solid most pair small index range =
     let low : pair.0 < 2 ^ 32 = ltb-true pair.0 (2 ^ 32) index in
     let high : pair.1 ≤ most = leb-true pair.1 most (and_parts (nat_le 1 pair.1) (nat_le pair.1 most) range).1 in
@@ -191,7 +191,7 @@ record AreEachPairTexts (most : ℕ) (pairs : List (ℕ × ℕ)) : Type 0 where
   each : list_all (is_pair most) (map pair_text pairs) ≡ true
   same : map pair_of (map pair_text pairs) ≡ pairs
 
-text_each : (most : ℕ) (pairs : List (ℕ × ℕ)) → most < 2 ^ 63 → list_all is_index (firsts pairs) ≡ true → list_all (λ q. is_from_one most q.1) pairs ≡ true → AreEachPairTexts most pairs
+text_each : (most : ℕ) (pairs : List (ℕ × ℕ)) → most < 2 ^ 99 → list_all is_index (firsts pairs) ≡ true → list_all (λ q. is_from_one most q.1) pairs ≡ true → AreEachPairTexts most pairs
 text_each most [] small index range = record { solid = refl; each = refl; same = refl }
 text_each most (pair ∷ pairs) small index range =
     let indexes = and_parts (is_index pair.0) (list_all is_index (firsts pairs)) index in
@@ -210,7 +210,7 @@ ascending-index (x ∷ xs) h =
     let both = and_parts (nat_le x (2 ^ 32 - 1) && list_all (nat_lt x) xs) (is_ascending (2 ^ 32 - 1) xs) h in
     and_from (is_index x) (list_all is_index xs) (index-of_most x (and_parts (nat_le x (2 ^ 32 - 1)) (list_all (nat_lt x) xs) both.0).0) (ascending-index xs both.1)
 
-pub text-pairs : (most : ℕ) (pairs : List (ℕ × ℕ)) → most < 2 ^ 63 → are_multipliers most pairs ≡ true → ArePairTexts most pairs
+pub text-pairs : (most : ℕ) (pairs : List (ℕ × ℕ)) → most < 2 ^ 99 → are_multipliers most pairs ≡ true → ArePairTexts most pairs
 text-pairs most pairs small h =
     let rules = and_parts (are_pairs most pairs) (nat_le (length pairs) 4096) h in
     let up = and_parts (is_ascending (2 ^ 32 - 1) (firsts pairs)) (list_all (λ q. is_from_one most q.1) pairs) rules.0 in

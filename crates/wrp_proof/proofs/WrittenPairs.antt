@@ -47,7 +47,7 @@ halves-whole part some = elim (cases_lt (position_or_len is_colon part) (length 
 ]
 
 -- a pair that is written right is written as its numbers and a colon
-pub pair-text : (most : ℕ) (part : List ℕ) → most < 2 ^ 63 → is_pair most part ≡ true → pair_text (pair_of part) ≡ part
+pub pair-text : (most : ℕ) (part : List ℕ) → most < 2 ^ 99 → is_pair most part ≡ true → pair_text (pair_of part) ≡ part
 pair-text most part small h =
     let first = first_half part in
     let second = second_half part in
@@ -60,7 +60,7 @@ pair-text most part small h =
     rw (number-text first one.0 (omega arith), number-text second two.0 (omega arith)) (halves-whole part (number_digits second two.0).0)
 
 -- the pair of the text of a pair
-pub text-pair : (most : ℕ) (pair : ℕ × ℕ) → most < 2 ^ 63 → is_index pair.0 ≡ true → is_from_one most pair.1 ≡ true → (is_pair most (pair_text pair) ≡ true) × (pair_of (pair_text pair) ≡ pair)
+pub text-pair : (most : ℕ) (pair : ℕ × ℕ) → most < 2 ^ 99 → is_index pair.0 ≡ true → is_from_one most pair.1 ≡ true → (is_pair most (pair_text pair) ≡ true) × (pair_of (pair_text pair) ≡ pair)
 text-pair most pair small index range =
     let low : pair.0 < 2 ^ 32 = ltb-true pair.0 (2 ^ 32) index in
     let high : pair.1 ≤ most = leb-true pair.1 most (and_parts (nat_le 1 pair.1) (nat_le pair.1 most) range).1 in
