@@ -6,5 +6,8 @@ pub mod WrittenPairs
 pub mod Spacing
 pub mod StepLists
 pub mod PairLists
+pub mod SetLists
+pub mod LabelLists
+pub mod Records
 pub mod LineLaws
 pub mod EndLaws

@@ -4,8 +4,11 @@
 
 mod end;
 mod fault;
+mod labels;
+mod numbers;
 mod parts;
 mod place;
+mod ranges;
 mod reading;
 mod record;
 mod rule;
@@ -14,8 +17,9 @@ mod views;
 
 pub use end::{is_later_end, read_end};
 pub use fault::LineFault;
+pub use numbers::NumbersOf;
 pub use parts::{PairsOf, StepsOf};
-pub use reading::view;
+pub use reading::{is_later, view};
 pub use record::{End, Record};
 pub use rule::Rule;
 pub use views::{View, ViewFault};
