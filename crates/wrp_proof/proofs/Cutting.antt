@@ -1,11 +1,11 @@
 -- The first part of a line, cut off at a byte.
-use Rattle.std.proofs.Common.{inl, inr, ◌⊎◌, ◌≡◌, ℕ, ◌+◌, ◌<◌, ◌≤◌, true, false, not, ◌==◌, List, [], ◌∷◌, length, get_or, take, drop, refl, sym, ap, ◌∙◌, arith, drop-cons, add-one, eq-eqb}
+use Rattle.std.proofs.Common.{inl, inr, ◌≡◌, ℕ, ◌+◌, ◌<◌, ◌≤◌, true, false, not, ◌==◌, List, ◌∷◌, length, get_or, take, drop, sym, ap, ◌∙◌, arith, drop-cons, add-one, eq-eqb}
 use Rattle.std.proofs.lemmas.Bool.{cases_lt}
 use Rattle.std.proofs.lemmas.List.{take_all, drop_all}
 use Rattle.std.proofs.lemmas.List.Elements.{All-from_get_or}
 use Rattle.std.proofs.lemmas.List.Splits.{slice_split_first, slice_split_none}
 use Rattle.std.proofs.lemmas.List.Sums.{position_or_len_is, fails_before_first, passes_at_first, prefix_len-le-length}
-use Rattle.std.specs.List.{slice_split, before_first, after_first, position_or_len}
+use Rattle.std.specs.List.{slice_split, position_or_len}
 use Rattle.wrp_proof.specs.Parts.{is_space, is_spaced, parts_of}
 
 -- the first place of a byte, and the end where it isn't there

@@ -1,11 +1,11 @@
 -- Labels and streets on both sides of a slash.
-use Rattle.std.proofs.Common.{inl, inr, arith, codes, get_or, suc, ◌<◌, ◌≡◌, ℕ, ◌+◌, ◌-◌, ◌≤◌, Bool, true, false, cond, ◌&&◌, ◌||◌, not, ◌==◌, List, [], ◌∷◌, ◌++◌, map, length, take, drop, refl, sym, ap, ◌∙◌, append_assoc}
-use Rattle.std.proofs.lemmas.Bool.{and_parts, and_from, cases_Bool, false≢true}
+use Rattle.std.proofs.Common.{inl, inr, arith, codes, get_or, suc, ◌<◌, ◌≡◌, ℕ, ◌+◌, ◌-◌, Bool, true, false, cond, ◌||◌, not, List, [], ◌∷◌, ◌++◌, length, take, drop, refl, sym, ap, ◌∙◌, append_assoc}
+use Rattle.std.proofs.lemmas.Bool.{and_parts, cases_Bool, false≢true}
 use Rattle.std.proofs.lemmas.Slice.Eq.{bytes_eq-Decides}
 use Rattle.std.proofs.lemmas.List.Sums.{split_at_first, passes_at_first}
 use Rattle.std.proofs.lemmas.List.{take_at, drop_at, length-append}
 use Rattle.std.proofs.lemmas.List.Folds.{list_all-append}
-use Rattle.std.specs.List.{list_all, list_any, position_or_len, flat_map, slice_split, onto_first}
+use Rattle.std.specs.List.{list_all, list_any, position_or_len, slice_split, onto_first}
 use Rattle.wrp_proof.specs.Parts.{is_space, is_spaced, parts_of, is_index_part}
 use Rattle.wrp_proof.specs.Shapes.{is_slash}
 use Rattle.wrp_proof.specs.Spelling.{label_parts, street_parts}
@@ -63,10 +63,10 @@ pub record IsBeforeSlash (line left : List ℕ) : Type 0 where
 front-parts : (line left : List ℕ) (h : IsBeforeSlash line left) → parts_of (take (length line - length left) line) ≡ h.before
 front-parts line left h =
     let whole : line ≡ spread h.before ++ left =
-        sym (spread-parts_of line h.whole) ∙ ap spread h.parts ∙ spread-append h.before (parts_of left) ∙ ap (λ rest. spread h.before ++ rest) (spread-parts_of left h.spaced) in
+    sym (spread-parts_of line h.whole) ∙ ap spread h.parts ∙ spread-append h.before (parts_of left) ∙ ap (λ rest. spread h.before ++ rest) (spread-parts_of left h.spaced) in
     let size : length line - length left ≡ length (spread h.before) = omega (arith, ap length whole, length-append (spread h.before) left) in
     let solid = (and_parts (list_all is_solid h.before) (list_all is_solid (parts_of left))
-        (sym (list_all-append is_solid h.before (parts_of left)) ∙ ap (list_all is_solid) (sym h.parts) ∙ parts_of-solid line)).0 in
+    (sym (list_all-append is_solid h.before (parts_of left)) ∙ ap (list_all is_solid) (sym h.parts) ∙ parts_of-solid line)).0 in
     ap (λ n. parts_of (take n line)) size
     ∙ ap (λ bytes. parts_of (take (length (spread h.before)) bytes)) whole
     ∙ ap parts_of (take_at (spread h.before) left (length (spread h.before)) refl)

@@ -10,4 +10,5 @@ pub mod SetLists
 pub mod LabelLists
 pub mod Records
 pub mod LineLaws
+pub mod Narrow
 pub mod EndLaws

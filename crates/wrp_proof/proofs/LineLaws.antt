@@ -1,8 +1,6 @@
 -- A line spells the record of its parts, and no other record.
-use Rattle.std.proofs.Common.{Option, Some, None, ◌≡◌, ℕ, Bool, true, false, cond, List, [], ◌∷◌, refl, sym, ap, ◌∙◌, subst}
+use Rattle.std.proofs.Common.{Option, Some, None, ◌≡◌, ℕ, Bool, true, false, cond, List, [], ◌∷◌, refl, sym, ap, ◌∙◌}
 use Rattle.wrp_proof.specs.declared.record.Record.{Record}
-use Rattle.wrp_proof.specs.Lines.{line_of}
-use Rattle.wrp_proof.specs.Rules.{has_number_rules}
 use Rattle.wrp_proof.specs.Parts.{is_spaced, parts_of}
 use Rattle.wrp_proof.specs.Spelling.{record_in}
 use Rattle.wrp_proof.specs.Views.{spelled, IsLineOf}

@@ -1,5 +1,5 @@
 -- Lists of pairs, and the parts that spell them.
-use Rattle.std.proofs.Common.{arith, false, Option, Some, None, ◌≡◌, ℕ, ◌+◌, ◌-◌, ◌<◌, ◌≤◌, ◌^◌, Bool, true, cond, ◌&&◌, not, ◌==◌, nat_lt, nat_le, List, [], ◌∷◌, ◌++◌, map, length, refl, sym, ap, ◌∙◌}
+use Rattle.std.proofs.Common.{arith, false, Some, None, ◌≡◌, ℕ, ◌+◌, ◌-◌, ◌<◌, ◌≤◌, ◌^◌, Bool, true, cond, ◌&&◌, not, ◌==◌, nat_lt, nat_le, List, [], ◌∷◌, map, length, refl, sym, ap, ◌∙◌}
 use Rattle.std.proofs.lemmas.Bool.{and_left, and_parts, and_from, ltb-true, leb-true, lt-ltb, le-leb}
 use Rattle.std.proofs.lemmas.List.{length-map}
 use Rattle.std.proofs.lemmas.List.Folds.{list_all-append}
@@ -9,7 +9,7 @@ use Rattle.std.specs.Fmt.{decimal}
 use Rattle.std.specs.List.{list_all, join_with_byte}
 use Rattle.wrp_proof.specs.Lines.{pair_text}
 use Rattle.wrp_proof.specs.Parts.{parts_of, is_number, number_of, first_half, second_half, is_pair, pair_of, is_space, are_multiplier_parts, are_pair_parts}
-use Rattle.wrp_proof.specs.Rules.{is_index, is_from_one, is_ascending, are_pairs, are_multipliers}
+use Rattle.wrp_proof.specs.Rules.{is_index, is_from_one, is_ascending, are_pairs}
 use Rattle.wrp_proof.proofs.Written.{text-number}
 use Rattle.wrp_proof.proofs.WrittenPairs.{number_digits, pair-text, text-pair}
 use Rattle.wrp_proof.proofs.Spacing.{is_solid, digits-solid}

@@ -1,11 +1,11 @@
 -- Lists of numbers and sets, and the parts that spell them.
-use Rattle.std.proofs.Common.{arith, false, Option, Some, None, ◌≡◌, ℕ, ◌+◌, ◌-◌, ◌<◌, ◌≤◌, ◌^◌, Bool, true, cond, ◌&&◌, not, ◌==◌, nat_lt, nat_le, List, [], ◌∷◌, ◌++◌, map, length, refl, sym, ap, ◌∙◌}
-use Rattle.std.proofs.lemmas.Bool.{and_left, and_parts, and_from, ltb-true, leb-true, lt-ltb, le-leb}
+use Rattle.std.proofs.Common.{arith, ◌≡◌, ℕ, ◌+◌, ◌-◌, ◌<◌, ◌^◌, Bool, true, ◌&&◌, nat_lt, nat_le, List, [], ◌∷◌, map, refl, sym, ap, ◌∙◌}
+use Rattle.std.proofs.lemmas.Bool.{and_parts, and_from, ltb-true, leb-true}
 use Rattle.std.proofs.lemmas.List.Splits.{join_with_byte-slice_split}
 use Rattle.std.specs.Fmt.{decimal}
 use Rattle.std.specs.List.{list_all, join_with_byte}
 use Rattle.wrp_proof.specs.Parts.{parts_of, is_number, number_of, numbers_of, is_index_part, are_set_parts}
-use Rattle.wrp_proof.specs.Rules.{is_index, is_ascending, is_set}
+use Rattle.wrp_proof.specs.Rules.{is_index, is_set}
 use Rattle.wrp_proof.proofs.Written.{number-text, text-number}
 use Rattle.wrp_proof.proofs.WrittenPairs.{number_digits}
 use Rattle.wrp_proof.proofs.Spacing.{is_solid, digits-solid}

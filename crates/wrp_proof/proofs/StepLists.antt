@@ -1,5 +1,5 @@
 -- Lists of steps, and the parts that spell them.
-use Rattle.std.proofs.Common.{arith, false, ◌≡◌, ℕ, ◌<◌, ◌^◌, Bool, true, cond, ◌&&◌, not, ◌==◌, List, [], ◌∷◌, ◌++◌, map, refl, sym, ap, ◌∙◌}
+use Rattle.std.proofs.Common.{arith, false, ◌≡◌, ℕ, ◌<◌, ◌^◌, Bool, true, cond, not, ◌==◌, List, [], ◌∷◌, map, refl, sym, ap, ◌∙◌}
 use Rattle.std.proofs.lemmas.Bool.{and_parts, and_from, ltb-true}
 use Rattle.std.proofs.lemmas.List.Folds.{list_all-append}
 use Rattle.std.proofs.lemmas.List.Splits.{join_with_byte-slice_split}

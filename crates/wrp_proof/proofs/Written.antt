@@ -1,21 +1,19 @@
 -- Numbers, steps and pairs are written in one way: what a part spells is written as the part.
-use Rattle.std.proofs.Common.{inl, inr, ◌⊎◌, ◌≡◌, ◌≢◌, ℕ, ◌+◌, ◌-◌, ◌*◌, ◌/◌, ◌%◌, ◌^◌, ◌<◌, ◌≤◌, Bool, true, false, cond, ◌&&◌, ◌||◌, not, nat_lt, nat_le, ◌==◌, List, [], ◌∷◌, ◌++◌, length, get_or, take, drop, refl, sym, ap, ◌∙◌, subst, arith, rules, eq-eqb, length-append, append_assoc}
-use Rattle.std.proofs.lemmas.Bool.{and_parts, and_from, or_cases, or_left, or_right, true_from_ne_false, both_ways, eqb-true, ltb-true, lt-ltb, leb-true, le-leb, not-true, not_from_false, ne_eqb, eqb-false, cases_eq}
+use Rattle.std.proofs.Common.{inl, inr, ◌≡◌, ℕ, ◌+◌, ◌-◌, ◌%◌, ◌^◌, ◌<◌, Bool, true, false, cond, ◌&&◌, ◌||◌, not, nat_lt, nat_le, ◌==◌, List, [], ◌∷◌, ◌++◌, length, get_or, refl, sym, ap, ◌∙◌, arith, rules, eq-eqb, length-append}
+use Rattle.std.proofs.lemmas.Bool.{and_parts, and_from, or_cases, or_left, or_right, both_ways, ltb-true, lt-ltb, leb-true, le-leb, not-true, not_from_false, ne_eqb, cases_eq}
 use Rattle.std.proofs.lemmas.Bool.Decides.{nat_tests}
 use Rattle.std.proofs.lemmas.Fmt.{decimal_is_IsNumeral_wide, decimal_by_steps_wide, decimal_digit}
 use Rattle.std.proofs.lemmas.Grind.{common_steps, take_at_read}
-use Rattle.std.proofs.lemmas.List.{take_at, drop_at, take_all, get_or_at, get_or_append_left, length_push, drop-drop}
-use Rattle.std.proofs.lemmas.List.Sums.{position_or_len_is, passes_at_first, split_at_first}
+use Rattle.std.proofs.lemmas.List.{take_at, take_all, get_or_at, get_or_append_left, length_push}
 use Rattle.std.proofs.lemmas.Str.Parse.{IsNumeralModel, numerals_by_value}
 use Rattle.std.specs.Char.{is_ascii_digit}
 use Rattle.std.specs.Fmt.{decimal}
-use Rattle.std.specs.List.{list_all, position_or_len, before_first, after_first}
+use Rattle.std.specs.List.{list_all}
 use Rattle.std.specs.Str.Parse.{digits_value}
 use Rattle.wrp_town.specs.declared.street.Step.{Step}
-use Rattle.wrp_proof.specs.Lines.{step_text, pair_text}
-use Rattle.wrp_proof.specs.Parts.{is_digits, is_number, number_of, street_part, sign_of, is_sign, is_step, step_of, is_colon, first_half, second_half, is_pair, pair_of}
-use Rattle.wrp_proof.specs.Rules.{is_index, is_from_one}
-use Rattle.wrp_proof.proofs.NumberTexts.{list_all-at, digit_range}
+use Rattle.wrp_proof.specs.Lines.{step_text}
+use Rattle.wrp_proof.specs.Parts.{is_digits, is_number, number_of, street_part, sign_of, is_sign, is_step, step_of}
+use Rattle.wrp_proof.specs.Rules.{is_index}
 use Rattle.wrp_proof.proofs.Digits.{written}
 
 -- digits and their value are those of `decimal`

@@ -1,5 +1,5 @@
 -- The record that the parts of a line spell, where each is written right and in its range.
-use Rattle.std.specs.Prelude.{ℕ, ◌^◌, Bool, ◌&&◌, if◌then◌else◌, ◌==◌, List, [], ◌∷◌, map, Option, None, Some}
+use Rattle.std.specs.Prelude.{ℕ, ◌^◌, ◌&&◌, if◌then◌else◌, ◌==◌, List, [], ◌∷◌, map, Option, None, Some}
 use Rattle.std.specs.List.{list_all, list_any, before_first, after_first}
 use Rattle.wrp_proof.specs.declared.record.Record.{Record}
 use Rattle.wrp_proof.specs.declared.record.Record.TheVariants.{Tour, Conn, Odd, Round, Kc, Bound, Empty, Apart, Point, Blind, Split, Labels}

@@ -1,12 +1,14 @@
 -- What a view of a line stands for, and which lines have one.
-use Rattle.std.specs.Prelude.{◌≡◌, ℕ, ◌^◌, ◌≤◌, ◌<◌, Bool, true, false, ◌&&◌, ◌==◌, if◌then◌else◌, List, [], ◌∷◌, length, codes, Option, None, Some}
-use Rattle.std.specs.List.{list_any}
+use Rattle.std.specs.Prelude.{◌≡◌, ⊤, ℕ, ◌^◌, ◌≤◌, ◌<◌, Bool, true, false, ◌&&◌, nat_lt, ◌==◌, if◌then◌else◌, List, [], ◌∷◌, length, codes, Option, None}
+use Rattle.std.specs.List.{list_any, list_all}
 use Rattle.wrp_proof.specs.declared.record.Record.{Record}
 use Rattle.wrp_proof.specs.declared.record.Record.TheVariants.{Tour, Conn, Odd, Round, Kc, Bound, Empty, Apart, Point, Blind, Split, Labels}
 use Rattle.wrp_proof.specs.declared.views.View.{View}
 use Rattle.wrp_proof.specs.declared.views.View.TheVariants as views
 use Rattle.wrp_proof.specs.declared.views.ViewFault.{ViewFault}
 use Rattle.wrp_proof.specs.declared.views.ViewFault.TheVariants as faults
+use Rattle.wrp_proof.specs.declared.fault.LineFault.{LineFault}
+use Rattle.wrp_proof.specs.declared.fault.LineFault.TheVariants as line_faults
 use Rattle.wrp_proof.specs.Lines.{line_of}
 use Rattle.wrp_proof.specs.Rules.{has_number_rules}
 use Rattle.wrp_proof.specs.Parts.{is_spaced, parts_of}
@@ -27,6 +29,24 @@ record_of (views.Point node den numbers) = Point node den numbers
 record_of (views.Blind node) = Blind node
 record_of (views.Split node arc k) = Split node arc k
 record_of (views.Labels labels streets) = Labels labels streets
+
+-- the second numbers of multipliers are below 2 ^ 64
+abbrev pub are_narrow : List (ℕ × ℕ) → Bool
+are_narrow mult = list_all (λ q. nat_lt q.1 (2 ^ 64)) mult
+
+abbrev pub has_narrow_multipliers : Record → Bool
+has_narrow_multipliers (Tour cost steps) = true
+has_narrow_multipliers (Conn r1 r2 set) = true
+has_narrow_multipliers (Odd set) = true
+has_narrow_multipliers (Round divisor mult) = are_narrow mult
+has_narrow_multipliers (Kc k of) = true
+has_narrow_multipliers (Bound node den mult) = are_narrow mult
+has_narrow_multipliers (Empty node mult) = are_narrow mult
+has_narrow_multipliers (Apart node r1 r2 set) = true
+has_narrow_multipliers (Point node den numbers) = true
+has_narrow_multipliers (Blind node) = true
+has_narrow_multipliers (Split node arc k) = true
+has_narrow_multipliers (Labels labels streets) = true
 
 -- the letter is that of a record which is neither a tour nor a bound
 abbrev pub is_later_letter : ℕ → Bool
@@ -61,3 +81,17 @@ abbrev pub IsFaultOf : List ℕ → ViewFault → Type 0
 IsFaultOf line (faults.Form at) = (length line ≤ 2 ^ 28) × (has_shape line ≡ false) × (at ≤ length line)
 IsFaultOf line (faults.Number at) = (length line ≤ 2 ^ 28) × (has_shape line ≡ true) × (at ≤ length line)
 IsFaultOf line faults.Long = 2 ^ 28 < length line
+
+-- the fault of a line as a reader of records says it, who may want memory
+abbrev pub IsLineFaultOf : List ℕ → LineFault → Type 0
+IsLineFaultOf line (line_faults.Form at) = (length line ≤ 2 ^ 28) × (has_shape line ≡ false) × (at ≤ length line)
+IsLineFaultOf line (line_faults.Number at) = (length line ≤ 2 ^ 28) × (has_shape line ≡ true) × (at ≤ length line)
+IsLineFaultOf line line_faults.Long = 2 ^ 28 < length line
+IsLineFaultOf line line_faults.Memory = ⊤
+
+-- where a record isn't read, the line spells none, or it is long or memory is wanting
+abbrev pub IsWithoutRecord : List ℕ → LineFault → Type 0
+IsWithoutRecord line (line_faults.Form at) = spelled line ≡ None
+IsWithoutRecord line (line_faults.Number at) = spelled line ≡ None
+IsWithoutRecord line line_faults.Long = ⊤
+IsWithoutRecord line line_faults.Memory = ⊤

@@ -58,7 +58,9 @@ pub(crate) fn number_place(letter: u8, left: &[u8]) -> usize
 fn up_to(exponent: u32) -> Range
     requires { exponent < 64 }
 {
-    Range::FromOne { most: 1 << exponent }
+    Range::FromOne {
+        most: 1 << exponent,
+    }
 }
 
 /// The place of the first number that breaks a rule, among three numbers and others.

@@ -9,8 +9,8 @@ ghost use Rattle.wrp_proof.specs.Views.{record_of, is_later_letter, goes_on as g
 use crate::labels::label_halves;
 use crate::numbers::NumbersOf;
 use crate::parts::{PairsOf, StepsOf};
-use crate::ranges::number_place;
 use crate::place::form_place;
+use crate::ranges::number_place;
 use crate::text::{goes_on_with_space, read_count, read_from_one, read_index, split_part};
 use crate::views::{View, ViewFault};
 

@@ -1,4 +1,4 @@
-use Rattle.std.proofs.Common.{◌≡◌, sym, ◌∙◌, arith}
+use Rattle.std.proofs.Common.{sym, ◌∙◌, arith}
 use Rattle.wrp_proof.proofs.LabelLists.{starts-before, goes-before, halves-found}
 use Rattle.wrp_proof.proofs.labels.label_halves.Goals as goal
 

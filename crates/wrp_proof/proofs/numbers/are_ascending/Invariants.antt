@@ -1,4 +1,4 @@
-use Rattle.std.proofs.Common.{◌≡◌, ◌≤◌, length}
+use Rattle.std.proofs.Common.{◌≡◌, length}
 use Rattle.wrp_proof.specs.Parts.{parts_of, are_set_parts}
 use Rattle.wrp_proof.proofs.SetLists.{rise}
 use Rattle.wrp_proof.proofs.numbers.are_ascending.Given as goal

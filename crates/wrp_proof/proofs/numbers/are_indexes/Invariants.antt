@@ -1,4 +1,4 @@
-use Rattle.std.proofs.Common.{◌≡◌, ◌≤◌, length}
+use Rattle.std.proofs.Common.{◌≡◌, length}
 use Rattle.std.specs.List.{list_all}
 use Rattle.wrp_proof.specs.Parts.{parts_of, is_index_part}
 use Rattle.wrp_proof.proofs.numbers.are_indexes.Given as goal

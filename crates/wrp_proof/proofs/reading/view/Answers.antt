@@ -1,4 +1,4 @@
-use Rattle.std.proofs.Common.{◌≡◌, Option, Some, None, sym, ◌∙◌}
+use Rattle.std.proofs.Common.{◌≡◌, Some, None, sym, ◌∙◌}
 use Rattle.wrp_proof.specs.declared.record.Record.{Record}
 use Rattle.wrp_proof.specs.Views.{record_of}
 use Rattle.wrp_proof.proofs.LineLaws.{spelled-line, line-spelled}

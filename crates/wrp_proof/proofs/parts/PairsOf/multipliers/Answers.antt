@@ -1,7 +1,7 @@
-use Rattle.std.proofs.Common.{sym, ◌∙◌, ◌&&◌, ◌^◌, nat_le, length, map, ap, arith}
+use Rattle.std.proofs.Common.{sym, ◌∙◌, ◌^◌, map}
 use Rattle.std.specs.List.{list_all}
 use Rattle.std.proofs.lemmas.Bool.{and_parts}
-use Rattle.wrp_proof.specs.Parts.{parts_of, is_pair, pair_of, are_multiplier_parts}
+use Rattle.wrp_proof.specs.Parts.{parts_of, is_pair, pair_of}
 use Rattle.wrp_proof.specs.Rules.{are_multipliers}
 use Rattle.wrp_proof.proofs.PairLists.{few_multipliers, all-widened}
 use Rattle.wrp_proof.proofs.parts.PairsOf.multipliers.Goals as goal
