@@ -1,12 +1,12 @@
 -- The first part of a line, cut off at a byte.
-use Rattle.std.proofs.Common.{inl, inr, ◌⊎◌, ◌≡◌, ℕ, ◌+◌, ◌<◌, ◌≤◌, true, false, not, ◌==◌, List, [], ◌∷◌, length, get_or, take, drop, refl, sym, ap, ◌∙◌, arith, drop-cons, add-one, eq-eqb}
+use Rattle.std.proofs.Common.{inl, inr, ◌≡◌, ℕ, ◌+◌, ◌<◌, ◌≤◌, true, false, not, ◌==◌, List, ◌∷◌, length, get_or, take, drop, sym, ap, ◌∙◌, arith, drop-cons, add-one, eq-eqb}
 use Rattle.std.proofs.lemmas.Bool.{cases_lt}
 use Rattle.std.proofs.lemmas.List.{take_all, drop_all}
 use Rattle.std.proofs.lemmas.List.Elements.{All-from_get_or}
 use Rattle.std.proofs.lemmas.List.Splits.{slice_split_first, slice_split_none}
-use Rattle.std.proofs.lemmas.List.Sums.{position_or_len_is, fails_before_first, prefix_len-le-length}
-use Rattle.std.specs.List.{slice_split, before_first, after_first, position_or_len}
-use Rattle.wrp_proof.specs.Parts.{is_space, parts_of}
+use Rattle.std.proofs.lemmas.List.Sums.{position_or_len_is, fails_before_first, passes_at_first, prefix_len-le-length}
+use Rattle.std.specs.List.{slice_split, position_or_len}
+use Rattle.wrp_proof.specs.Parts.{is_space, is_spaced, parts_of}
 
 -- the first place of a byte, and the end where it isn't there
 pub place_is : (w : ℕ) (bs : List ℕ) (i : ℕ) → ((k : ℕ) → k < i → (get_or bs k 0 == w) ≡ false) → i < length bs → get_or bs i 0 ≡ w → i ≡ position_or_len (λ byte. byte == w) bs
@@ -28,4 +28,11 @@ first_cut bs = elim (cases_lt (position_or_len is_space bs) (length bs)) [
   | inr ge ↦ let n : position_or_len is_space bs ≡ length bs = omega (arith, place_within 32 bs) in
       rw (n, take_all (length bs) bs (omega arith), drop_all (length bs) bs (omega arith))
       (slice_split_none is_space bs (All-from_get_or (λ x. is_space x ≡ false) bs 0 (λ k lt. fails_before_first is_space bs k 0 (omega arith))))
+]
+
+-- behind the first part nothing is left, or a space is next
+pub spaced_cut : (bs : List ℕ) → is_spaced (drop (position_or_len is_space bs) bs) ≡ true
+spaced_cut bs = elim (cases_lt (position_or_len is_space bs) (length bs)) [
+  | inl lt ↦ ap is_spaced (drop-cons bs (position_or_len is_space bs) 0 lt) ∙ passes_at_first is_space bs 0 lt
+  | inr ge ↦ ap is_spaced (drop_all (position_or_len is_space bs) bs (omega arith))
 ]

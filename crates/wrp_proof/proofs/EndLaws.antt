@@ -1,5 +1,5 @@
 -- An end line spells the end of its parts, and no other line does.
-use Rattle.std.proofs.Common.{arith, codes, Result, Ok, Err, Option, Some, None, false, ◌≡◌, ℕ, ◌+◌, ◌<◌, ◌≤◌, ◌^◌, Bool, true, cond, ◌&&◌, List, [], ◌∷◌, ◌++◌, length, refl, sym, ap, ◌∙◌}
+use Rattle.std.proofs.Common.{arith, codes, Some, None, false, ◌≡◌, ℕ, ◌<◌, ◌^◌, Bool, true, cond, ◌&&◌, List, [], ◌∷◌, refl, sym, ap, ◌∙◌}
 use Rattle.std.proofs.lemmas.Bool.{and_parts, and_from, ltb-true}
 use Rattle.std.proofs.lemmas.Slice.Eq.{bytes_eq-Decides}
 use Rattle.std.specs.Fmt.{decimal}
@@ -8,9 +8,9 @@ use Rattle.std.specs.Str.{bytes_eq}
 use Rattle.wrp_proof.specs.declared.record.End.{End}
 use Rattle.wrp_proof.specs.declared.record.End.TheVariants.{Optimal, Infeasible, Unfinished}
 use Rattle.wrp_proof.specs.Lines.{end_line}
-use Rattle.wrp_proof.specs.Parts.{is_space, parts_of, is_number, number_of}
+use Rattle.wrp_proof.specs.Parts.{is_space, parts_of, is_number, number_of, is_count_part}
 use Rattle.wrp_proof.specs.Rules.{is_count}
-use Rattle.wrp_proof.specs.Ends.{has_end_numbers, IsEndLineOf, is_count_part, optimal_in, infeasible_in, unfinished_in, end_of_word, end_of_parts, end_in}
+use Rattle.wrp_proof.specs.Ends.{has_end_numbers, IsEndLineOf, optimal_in, infeasible_in, unfinished_in, end_of_word, end_of_parts, end_in}
 use Rattle.wrp_proof.proofs.Written.{number-text, text-number}
 use Rattle.wrp_proof.proofs.WrittenPairs.{number_digits}
 use Rattle.wrp_proof.proofs.Spacing.{is_solid, spread, digits-solid, spread-split, parts_of-spread}

@@ -1,10 +1,15 @@
 pub mod NumberTexts
 pub mod Cutting
+pub mod Digits
 pub mod Written
 pub mod WrittenPairs
 pub mod Spacing
 pub mod StepLists
 pub mod PairLists
+pub mod SetLists
+pub mod LabelLists
+pub mod Records
 pub mod LineLaws
+pub mod Narrow
 pub mod EndLaws
 pub mod SpelledLaws

@@ -1,5 +1,5 @@
 -- Lists of steps, and the parts that spell them.
-use Rattle.std.proofs.Common.{arith, false, ◌≡◌, ℕ, ◌<◌, ◌^◌, Bool, true, cond, ◌&&◌, not, ◌==◌, List, [], ◌∷◌, ◌++◌, map, refl, sym, ap, ◌∙◌}
+use Rattle.std.proofs.Common.{arith, false, ◌≡◌, ℕ, ◌<◌, ◌^◌, Bool, true, cond, not, ◌==◌, List, [], ◌∷◌, map, refl, sym, ap, ◌∙◌}
 use Rattle.std.proofs.lemmas.Bool.{and_parts, and_from, ltb-true}
 use Rattle.std.proofs.lemmas.List.Folds.{list_all-append}
 use Rattle.std.proofs.lemmas.List.Splits.{join_with_byte-slice_split}
@@ -48,13 +48,15 @@ step_text-solid step h =
 pub record AreStepTexts (steps : List Step) : Type 0 where
   pub solid : list_all is_solid (map step_text steps) ≡ true
   pub read : list_all is_step (map step_text steps) ≡ true
+  pub same : map step_of (map step_text steps) ≡ steps
 
 pub text-steps : (steps : List Step) → list_all (λ step. is_index step.street) steps ≡ true → AreStepTexts steps
-text-steps [] h = record { solid = refl; read = refl }
+text-steps [] h = record { solid = refl; read = refl; same = refl }
 text-steps (step ∷ steps) h =
     let both = and_parts (is_index step.street) (list_all (λ s. is_index s.street) steps) h in
     let others = text-steps steps both.1 in
     record {
       solid = and_from (is_solid (step_text step)) (list_all is_solid (map step_text steps)) (step_text-solid step both.0) others.solid;
       read = and_from (is_step (step_text step)) (list_all is_step (map step_text steps)) (text-step step both.0).0 others.read;
+      same = ap (λ first. first ∷ map step_of (map step_text steps)) (text-step step both.0).1 ∙ ap (λ rest. step ∷ rest) others.same;
     }

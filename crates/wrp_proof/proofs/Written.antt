@@ -1,28 +1,27 @@
 -- Numbers, steps and pairs are written in one way: what a part spells is written as the part.
-use Rattle.std.proofs.Common.{inl, inr, ◌⊎◌, ◌≡◌, ◌≢◌, ℕ, ◌+◌, ◌-◌, ◌*◌, ◌^◌, ◌<◌, ◌≤◌, Bool, true, false, cond, ◌&&◌, ◌||◌, not, nat_lt, nat_le, ◌==◌, List, [], ◌∷◌, ◌++◌, length, get_or, take, drop, refl, sym, ap, ◌∙◌, subst, arith, rules, eq-eqb, length-append, append_assoc}
-use Rattle.std.proofs.lemmas.Bool.{and_parts, and_from, or_cases, or_left, or_right, true_from_ne_false, both_ways, eqb-true, ltb-true, lt-ltb, leb-true, le-leb, not-true, not_from_false, ne_eqb, eqb-false, cases_eq}
+use Rattle.std.proofs.Common.{inl, inr, ◌≡◌, ℕ, ◌+◌, ◌-◌, ◌%◌, ◌^◌, ◌<◌, Bool, true, false, cond, ◌&&◌, ◌||◌, not, nat_lt, nat_le, ◌==◌, List, [], ◌∷◌, ◌++◌, length, get_or, refl, sym, ap, ◌∙◌, arith, rules, eq-eqb, length-append}
+use Rattle.std.proofs.lemmas.Bool.{and_parts, and_from, or_cases, or_left, or_right, both_ways, ltb-true, lt-ltb, leb-true, le-leb, not-true, not_from_false, ne_eqb, cases_eq}
 use Rattle.std.proofs.lemmas.Bool.Decides.{nat_tests}
-use Rattle.std.proofs.lemmas.Fmt.{decimal-digits_value, digits_decimal, digits_value-decimal, decimal_nonempty, decimal_digit, first_decimal}
+use Rattle.std.proofs.lemmas.Fmt.{decimal_is_IsNumeral_wide, decimal_by_steps_wide, decimal_digit}
 use Rattle.std.proofs.lemmas.Grind.{common_steps, take_at_read}
-use Rattle.std.proofs.lemmas.List.{take_at, drop_at, take_all, get_or_at, get_or_append_left, length_push, drop-drop}
-use Rattle.std.proofs.lemmas.List.Sums.{position_or_len_is, passes_at_first, split_at_first}
+use Rattle.std.proofs.lemmas.List.{take_at, take_all, get_or_at, get_or_append_left, length_push}
 use Rattle.std.proofs.lemmas.Str.Parse.{IsNumeralModel, numerals_by_value}
 use Rattle.std.specs.Char.{is_ascii_digit}
 use Rattle.std.specs.Fmt.{decimal}
-use Rattle.std.specs.List.{list_all, position_or_len, before_first, after_first}
+use Rattle.std.specs.List.{list_all}
 use Rattle.std.specs.Str.Parse.{digits_value}
 use Rattle.wrp_town.specs.declared.street.Step.{Step}
-use Rattle.wrp_proof.specs.Lines.{step_text, pair_text}
-use Rattle.wrp_proof.specs.Parts.{is_digits, is_number, number_of, street_part, sign_of, is_sign, is_step, step_of, is_colon, first_half, second_half, is_pair, pair_of}
-use Rattle.wrp_proof.specs.Rules.{is_index, is_from_one}
-use Rattle.wrp_proof.proofs.NumberTexts.{list_all-at, digit_range}
+use Rattle.wrp_proof.specs.Lines.{step_text}
+use Rattle.wrp_proof.specs.Parts.{is_digits, is_number, number_of, street_part, sign_of, is_sign, is_step, step_of}
+use Rattle.wrp_proof.specs.Rules.{is_index}
+use Rattle.wrp_proof.proofs.Digits.{written}
 
 -- digits and their value are those of `decimal`
 digits_model : IsNumeralModel (λ ds. list_all is_ascii_digit ds ≡ true) (digits_value 10)
 digits_model = numerals_by_value (λ ds. list_all is_ascii_digit ds ≡ true) (search rules)
 
 -- a number is written as `decimal` writes its value
-pub number-text : (part : List ℕ) → is_number part ≡ true → number_of part < 2 ^ 64 → decimal (number_of part) ≡ part
+pub number-text : (part : List ℕ) → is_number part ≡ true → number_of part < 10 ^ 64 → decimal (number_of part) ≡ part
 number-text part h small =
     let parts = and_parts (is_digits part) (nat_le (length part) 1 || not (get_or part 0 0 == 48)) h in
     let digits = and_parts (nat_lt 0 (length part)) (list_all is_ascii_digit part) parts.0 in
@@ -31,18 +30,24 @@ number-text part h small =
       | inl short ↦ omega (arith, leb-true (length part) 1 short)
       | inr other ↦ absurd (both_ways (get_or part 0 0 == 48) (not-true (get_or part 0 0 == 48) other) (eq-eqb (get_or part 0 0) 48 zero))
     ] in
-    decimal-digits_value digits_model part digits.1 some one small
+    written part digits.1 some one small
+
+-- the first digit of a number above 0 isn't 0
+first-digit : (n : ℕ) → 0 < n → n < 10 ^ 64 → 48 < get_or (decimal n) 0 0
+first-digit n some small = (decimal_by_steps_wide (λ m digits. (0 < length digits) × (0 < m → 48 < get_or digits 0 0)) (λ m l. (omega arith, λ a. omega arith))
+    (λ m digits l h. (omega (arith, length-append digits ((48 + m % 10) ∷ [])), λ a. omega (arith, get_or_append_left digits ((48 + m % 10) ∷ []) 0 0 h.0, h.1 (omega arith)))) n small).1 some
 
 -- what `decimal` writes is a number with that value
-pub text-number : (n : ℕ) → n < 2 ^ 64 → (is_number (decimal n) ≡ true) × (number_of (decimal n) ≡ n)
+pub text-number : (n : ℕ) → n < 10 ^ 64 → (is_number (decimal n) ≡ true) × (number_of (decimal n) ≡ n)
 text-number n small =
-    let some = lt-ltb 0 (length (decimal n)) (decimal_nonempty n small) in
-    let digits = and_from (nat_lt 0 (length (decimal n))) (list_all is_ascii_digit (decimal n)) some (digits_decimal digits_model n small) in
+    let numeral = decimal_is_IsNumeral_wide n small in
+    let some = lt-ltb 0 (length (decimal n)) numeral.0.0 in
+    let digits = and_from (nat_lt 0 (length (decimal n))) (list_all is_ascii_digit (decimal n)) some (digits_model.from (decimal n) numeral.0.1) in
     let plain : (nat_le (length (decimal n)) 1 || not (get_or (decimal n) 0 0 == 48)) ≡ true = elim (cases_eq n 0) [
       | inl zero ↦ or_left (nat_le (length (decimal n)) 1) (not (get_or (decimal n) 0 0 == 48)) (le-leb (length (decimal n)) 1 (omega (arith, ap length (decimal_digit n (omega arith)))))
-      | inr other ↦ or_right (nat_le (length (decimal n)) 1) (not (get_or (decimal n) 0 0 == 48)) (not_from_false (get_or (decimal n) 0 0 == 48) (ne_eqb (get_or (decimal n) 0 0) 48 (λ e. omega (arith, first_decimal n (omega arith) small))))
+      | inr other ↦ or_right (nat_le (length (decimal n)) 1) (not (get_or (decimal n) 0 0 == 48)) (not_from_false (get_or (decimal n) 0 0 == 48) (ne_eqb (get_or (decimal n) 0 0) 48 (λ e. omega (arith, first-digit n (omega arith) small))))
     ] in
-    (and_from (is_digits (decimal n)) (nat_le (length (decimal n)) 1 || not (get_or (decimal n) 0 0 == 48)) digits plain, digits_value-decimal digits_model n small)
+    (and_from (is_digits (decimal n)) (nat_le (length (decimal n)) 1 || not (get_or (decimal n) 0 0 == 48)) digits plain, numeral.1)
 
 -- a text that ends with a byte: what stands before it, and the byte
 pub ends_with : (xs : List ℕ) (y : ℕ) → (street_part (xs ++ y ∷ []) ≡ xs) × (sign_of (xs ++ y ∷ []) ≡ y)

@@ -1,12 +1,12 @@
 -- Pairs are written in one way.
-use Rattle.std.proofs.Common.{inl, inr, ◌⊎◌, ◌≡◌, ◌≢◌, ℕ, ◌+◌, ◌-◌, ◌*◌, ◌^◌, ◌<◌, ◌≤◌, Bool, true, false, cond, ◌&&◌, ◌||◌, not, nat_lt, nat_le, ◌==◌, List, [], ◌∷◌, ◌++◌, length, get_or, take, drop, refl, sym, ap, ◌∙◌, arith, eq-eqb, append_assoc}
-use Rattle.std.proofs.lemmas.Bool.{and_parts, and_from, eqb-true, ltb-true, leb-true, both_ways, cases_lt}
+use Rattle.std.proofs.Common.{inl, inr, ◌≡◌, ℕ, ◌+◌, ◌^◌, ◌<◌, ◌≤◌, true, false, ◌&&◌, nat_lt, nat_le, List, [], ◌∷◌, ◌++◌, length, get_or, take, drop, refl, sym, ap, ◌∙◌, arith, append_assoc}
+use Rattle.std.proofs.lemmas.Bool.{and_parts, and_from, eqb-true, ltb-true, leb-true, cases_lt}
 use Rattle.std.proofs.lemmas.Bool.Decides.{nat_tests}
 use Rattle.std.proofs.lemmas.List.{take_at, drop_at, drop_all, get_or_at, get_or_append_left, length_push, length-append}
 use Rattle.std.proofs.lemmas.List.Sums.{position_or_len_is, passes_at_first, split_at_first}
 use Rattle.std.specs.Char.{is_ascii_digit}
 use Rattle.std.specs.Fmt.{decimal}
-use Rattle.std.specs.List.{list_all, position_or_len, before_first, after_first}
+use Rattle.std.specs.List.{list_all, position_or_len}
 use Rattle.wrp_proof.specs.Lines.{pair_text}
 use Rattle.wrp_proof.specs.Parts.{is_digits, is_number, number_of, is_colon, first_half, second_half, is_pair, pair_of}
 use Rattle.wrp_proof.specs.Rules.{is_index, is_from_one}
@@ -47,7 +47,7 @@ halves-whole part some = elim (cases_lt (position_or_len is_colon part) (length 
 ]
 
 -- a pair that is written right is written as its numbers and a colon
-pub pair-text : (most : ℕ) (part : List ℕ) → most < 2 ^ 63 → is_pair most part ≡ true → pair_text (pair_of part) ≡ part
+pub pair-text : (most : ℕ) (part : List ℕ) → most < 2 ^ 99 → is_pair most part ≡ true → pair_text (pair_of part) ≡ part
 pair-text most part small h =
     let first = first_half part in
     let second = second_half part in
@@ -60,7 +60,7 @@ pair-text most part small h =
     rw (number-text first one.0 (omega arith), number-text second two.0 (omega arith)) (halves-whole part (number_digits second two.0).0)
 
 -- the pair of the text of a pair
-pub text-pair : (most : ℕ) (pair : ℕ × ℕ) → most < 2 ^ 63 → is_index pair.0 ≡ true → is_from_one most pair.1 ≡ true → (is_pair most (pair_text pair) ≡ true) × (pair_of (pair_text pair) ≡ pair)
+pub text-pair : (most : ℕ) (pair : ℕ × ℕ) → most < 2 ^ 99 → is_index pair.0 ≡ true → is_from_one most pair.1 ≡ true → (is_pair most (pair_text pair) ≡ true) × (pair_of (pair_text pair) ≡ pair)
 text-pair most pair small index range =
     let low : pair.0 < 2 ^ 32 = ltb-true pair.0 (2 ^ 32) index in
     let high : pair.1 ≤ most = leb-true pair.1 most (and_parts (nat_le 1 pair.1) (nat_le pair.1 most) range).1 in

@@ -7,7 +7,7 @@ use Rattle.wrp_proof.specs.declared.record.End.TheVariants.{Optimal, Infeasible,
 use Rattle.wrp_proof.specs.declared.fault.LineFault.{LineFault}
 use Rattle.wrp_proof.specs.declared.fault.LineFault.TheVariants as faults
 use Rattle.wrp_proof.specs.Lines.{end_line}
-use Rattle.wrp_proof.specs.Parts.{is_space, is_digits, is_number, number_of}
+use Rattle.wrp_proof.specs.Parts.{is_space, is_digits, number_of, is_count_part}
 use Rattle.wrp_proof.specs.Rules.{is_count}
 
 -- the numbers of an end are below 2 ^ 63
@@ -20,10 +20,6 @@ has_end_numbers (Unfinished low high) = is_count low && is_count high
 pub record IsEndLineOf (end : End) (line : List ℕ) : Type 0 where
   pub text : end_line end ≡ line
   pub numbers : has_end_numbers end ≡ true
-
--- a cost that is written right
-abbrev pub is_count_part : List ℕ → Bool
-is_count_part part = is_number part && is_count (number_of part)
 
 -- what follows the word of an end
 abbrev pub optimal_in : List (List ℕ) → Option End

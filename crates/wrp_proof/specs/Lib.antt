@@ -8,5 +8,6 @@ pub mod Proofs
 pub mod Judged
 pub mod Parts
 pub mod Shapes
+pub mod Spelling
 pub mod Views
 pub mod Ends

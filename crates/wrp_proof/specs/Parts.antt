@@ -1,10 +1,10 @@
 -- The parts of a line: numbers, steps and pairs, each written in one way.
-use Rattle.std.specs.Prelude.{ℕ, ◌+◌, ◌-◌, ◌^◌, Bool, true, false, ◌&&◌, ◌||◌, not, ◌==◌, nat_lt, nat_le, List, [], ◌∷◌, map, length, take, slice_index}
+use Rattle.std.specs.Prelude.{ℕ, ◌-◌, ◌^◌, Bool, true, ◌&&◌, ◌||◌, not, ◌==◌, nat_lt, nat_le, List, [], ◌∷◌, map, length, take, slice_index}
 use Rattle.std.specs.Char.{is_ascii_digit}
 use Rattle.std.specs.List.{list_all, slice_split, before_first, after_first}
 use Rattle.std.specs.Str.Parse.{digits_value}
 use Rattle.wrp_town.specs.declared.street.Step.{Step}
-use Rattle.wrp_proof.specs.Rules.{is_index, is_from_one, are_multipliers}
+use Rattle.wrp_proof.specs.Rules.{is_index, is_count, is_from_one, is_set, are_pairs, are_multipliers}
 
 -- a byte that stands before each part
 abbrev pub is_space : ℕ → Bool
@@ -31,6 +31,24 @@ is_number part = is_digits part && (nat_le (length part) 1 || not (slice_index p
 -- the value of the digits
 abbrev pub number_of : List ℕ → ℕ
 number_of part = digits_value 10 part
+
+-- a number that is written right and in its range
+abbrev pub is_count_part : List ℕ → Bool
+is_count_part part = is_number part && is_count (number_of part)
+
+abbrev pub is_index_part : List ℕ → Bool
+is_index_part part = is_number part && is_index (number_of part)
+
+abbrev pub is_from_one_part : ℕ → List ℕ → Bool
+is_from_one_part most part = is_number part && is_from_one most (number_of part)
+
+-- the numbers that parts spell
+abbrev pub numbers_of : List (List ℕ) → List ℕ
+numbers_of parts = map number_of parts
+
+-- numbers of a set, written right and strictly ascending
+abbrev pub are_set_parts : List (List ℕ) → Bool
+are_set_parts parts = list_all is_index_part parts && is_set (numbers_of parts)
 
 -- what stands before the sign of a step, and the sign: `+` or `-`
 abbrev pub street_part : List ℕ → List ℕ
@@ -80,6 +98,10 @@ pair_of part = (number_of (first_half part), number_of (second_half part))
 abbrev pub are_multiplier_parts : ℕ → List (List ℕ) → Bool
 are_multiplier_parts most parts = list_all (is_pair most) parts && are_multipliers most (map pair_of parts)
 
+-- pairs that are written right, their first numbers ascending
+abbrev pub are_pair_parts : ℕ → List (List ℕ) → Bool
+are_pair_parts most parts = list_all (is_pair most) parts && are_pairs most (map pair_of parts)
+
 -- the greatest second number of a pair that a view holds
 abbrev pub most_second : ℕ
-most_second = 2 ^ 60
+most_second = 2 ^ 72

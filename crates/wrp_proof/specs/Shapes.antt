@@ -1,44 +1,61 @@
--- The shapes of the parts of a record, and the parts that spell one.
-use Rattle.std.specs.Prelude.{ℕ, ◌^◌, Bool, true, false, ◌&&◌, List, [], ◌∷◌, map}
+-- The shapes of the parts of records: a number may be any run of one or more digits.
+use Rattle.std.specs.Prelude.{codes, ℕ, Bool, true, false, ◌&&◌, if◌then◌else◌, ◌==◌, List, [], ◌∷◌}
 use Rattle.std.specs.List.{list_all}
-use Rattle.wrp_proof.specs.declared.record.Record.{Record}
-use Rattle.wrp_proof.specs.declared.record.Record.TheVariants.{Tour, Bound}
-use Rattle.wrp_proof.specs.Rules.{is_count, is_from_one}
-use Rattle.wrp_proof.specs.Parts.{is_digits, is_number, number_of, is_step_shape, is_step, step_of, is_pair_shape, pair_of, are_multiplier_parts}
+use Rattle.std.specs.Str.{bytes_eq}
+use Rattle.wrp_proof.specs.declared.place.Tail.{Tail}
+use Rattle.wrp_proof.specs.declared.place.Tail.TheVariants.{Steps, Pairs, Numbers, Labels, Nothing}
+use Rattle.wrp_proof.specs.Parts.{is_digits, is_step_shape, is_pair_shape}
 
--- the parts of a tour: its cost, and its steps
-abbrev pub has_tour_shape : List (List ℕ) → Bool
-has_tour_shape [] = false
-has_tour_shape (cost ∷ steps) = is_digits cost && list_all is_step_shape steps
+-- the slash between labels and streets
+abbrev pub is_slash : List ℕ → Bool
+is_slash part = bytes_eq part (codes "/")
 
-abbrev pub are_tour_parts : List (List ℕ) → Bool
-are_tour_parts [] = false
-are_tour_parts (cost ∷ steps) = (is_number cost && is_count (number_of cost)) && list_all is_step steps
+-- labels, a slash, and streets
+abbrev pub has_labels_shape : List (List ℕ) → Bool
+has_labels_shape [] = false
+has_labels_shape (part ∷ parts) = if is_slash part then list_all is_digits parts else is_digits part && has_labels_shape parts
 
--- the tour that parts spell
-abbrev pub tour_of : List (List ℕ) → Record
-tour_of [] = Tour 0 []
-tour_of (cost ∷ steps) = Tour (number_of cost) (map step_of steps)
+-- no part
+abbrev pub is_nothing : List (List ℕ) → Bool
+is_nothing [] = true
+is_nothing (part ∷ parts) = false
 
--- the parts of a bound: its node, its denominator, and its multipliers
-abbrev pub has_den_shape : List (List ℕ) → Bool
-has_den_shape [] = false
-has_den_shape (den ∷ mult) = is_digits den && list_all is_pair_shape mult
+-- what follows the first numbers of a record
+abbrev pub has_tail_shape : Tail → List (List ℕ) → Bool
+has_tail_shape Steps parts = list_all is_step_shape parts
+has_tail_shape Pairs parts = list_all is_pair_shape parts
+has_tail_shape Numbers parts = list_all is_digits parts
+has_tail_shape Labels parts = has_labels_shape parts
+has_tail_shape Nothing parts = is_nothing parts
 
-abbrev pub has_bound_shape : List (List ℕ) → Bool
-has_bound_shape [] = false
-has_bound_shape (node ∷ others) = is_digits node && has_den_shape others
+-- a number, and what follows it
+abbrev pub number_then : (List (List ℕ) → Bool) → List (List ℕ) → Bool
+number_then are_others [] = false
+number_then are_others (part ∷ parts) = is_digits part && are_others parts
 
-abbrev pub are_den_parts : List (List ℕ) → Bool
-are_den_parts [] = false
-are_den_parts (den ∷ mult) = (is_number den && is_from_one (2 ^ 40) (number_of den)) && are_multiplier_parts (2 ^ 60) mult
+-- one, two or three numbers and what follows them
+abbrev pub one_then : Tail → List (List ℕ) → Bool
+one_then tail parts = number_then (has_tail_shape tail) parts
 
-abbrev pub are_bound_parts : List (List ℕ) → Bool
-are_bound_parts [] = false
-are_bound_parts (node ∷ others) = (is_number node && is_count (number_of node)) && are_den_parts others
+abbrev pub two_then : Tail → List (List ℕ) → Bool
+two_then tail parts = number_then (one_then tail) parts
 
--- the bound that parts spell
-abbrev pub bound_of : List (List ℕ) → Record
-bound_of [] = Bound 0 0 []
-bound_of (node ∷ []) = Bound (number_of node) 0 []
-bound_of (node ∷ den ∷ mult) = Bound (number_of node) (number_of den) (map pair_of mult)
+abbrev pub three_then : Tail → List (List ℕ) → Bool
+three_then tail parts = number_then (two_then tail) parts
+
+-- the shape of the parts of a record with this letter
+abbrev pub has_parts_shape : ℕ → List (List ℕ) → Bool
+has_parts_shape letter parts =
+    if letter == 116 then one_then Steps parts
+    else if letter == 99 then two_then Numbers parts
+    else if letter == 111 then has_tail_shape Numbers parts
+    else if letter == 114 then one_then Pairs parts
+    else if letter == 107 then one_then Numbers parts
+    else if letter == 98 then two_then Pairs parts
+    else if letter == 101 then one_then Pairs parts
+    else if letter == 97 then three_then Numbers parts
+    else if letter == 112 then two_then Pairs parts
+    else if letter == 122 then one_then Nothing parts
+    else if letter == 115 then three_then Nothing parts
+    else if letter == 110 then has_tail_shape Labels parts
+    else false

@@ -1,23 +1,54 @@
 -- What a view of a line stands for, and which lines have one.
-use Rattle.std.specs.Prelude.{◌≡◌, ℕ, ◌^◌, ◌≤◌, ◌<◌, Bool, true, false, ◌&&◌, ◌||◌, not, ◌==◌, if◌then◌else◌, List, [], ◌∷◌, map, length, codes, Option, None, Some}
-use Rattle.std.specs.List.{list_any}
+use Rattle.std.specs.Prelude.{◌≡◌, ⊤, ℕ, ◌^◌, ◌≤◌, ◌<◌, Bool, true, false, ◌&&◌, nat_lt, ◌==◌, if◌then◌else◌, List, [], ◌∷◌, length, codes, Option, None}
+use Rattle.std.specs.List.{list_any, list_all}
 use Rattle.wrp_proof.specs.declared.record.Record.{Record}
-use Rattle.wrp_proof.specs.declared.record.Record.TheVariants.{Tour, Bound}
+use Rattle.wrp_proof.specs.declared.record.Record.TheVariants.{Tour, Conn, Odd, Round, Kc, Bound, Empty, Apart, Point, Blind, Split, Labels}
 use Rattle.wrp_proof.specs.declared.views.View.{View}
 use Rattle.wrp_proof.specs.declared.views.View.TheVariants as views
 use Rattle.wrp_proof.specs.declared.views.ViewFault.{ViewFault}
 use Rattle.wrp_proof.specs.declared.views.ViewFault.TheVariants as faults
+use Rattle.wrp_proof.specs.declared.fault.LineFault.{LineFault}
+use Rattle.wrp_proof.specs.declared.fault.LineFault.TheVariants as line_faults
 use Rattle.wrp_proof.specs.Lines.{line_of}
 use Rattle.wrp_proof.specs.Rules.{has_number_rules}
 use Rattle.wrp_proof.specs.Parts.{is_spaced, parts_of}
-use Rattle.wrp_proof.specs.Shapes.{has_tour_shape, has_bound_shape, are_tour_parts, tour_of, are_bound_parts, bound_of}
+use Rattle.wrp_proof.specs.Shapes.{has_parts_shape}
+use Rattle.wrp_proof.specs.Spelling.{record_in}
 
 -- the record with the fields and the lists of a view
 abbrev pub record_of : View → Record
 record_of (views.Tour cost steps) = Tour cost steps
+record_of (views.Conn r1 r2 set) = Conn r1 r2 set
+record_of (views.Odd set) = Odd set
+record_of (views.Round divisor mult) = Round divisor mult
+record_of (views.Kc k of) = Kc k of
 record_of (views.Bound node den mult) = Bound node den mult
+record_of (views.Empty node mult) = Empty node mult
+record_of (views.Apart node r1 r2 set) = Apart node r1 r2 set
+record_of (views.Point node den numbers) = Point node den numbers
+record_of (views.Blind node) = Blind node
+record_of (views.Split node arc k) = Split node arc k
+record_of (views.Labels labels streets) = Labels labels streets
 
--- the letter is that of a record which views don't read yet
+-- the second numbers of multipliers are below 2 ^ 64
+abbrev pub are_narrow : List (ℕ × ℕ) → Bool
+are_narrow mult = list_all (λ q. nat_lt q.1 (2 ^ 64)) mult
+
+abbrev pub has_narrow_multipliers : Record → Bool
+has_narrow_multipliers (Tour cost steps) = true
+has_narrow_multipliers (Conn r1 r2 set) = true
+has_narrow_multipliers (Odd set) = true
+has_narrow_multipliers (Round divisor mult) = are_narrow mult
+has_narrow_multipliers (Kc k of) = true
+has_narrow_multipliers (Bound node den mult) = are_narrow mult
+has_narrow_multipliers (Empty node mult) = are_narrow mult
+has_narrow_multipliers (Apart node r1 r2 set) = true
+has_narrow_multipliers (Point node den numbers) = true
+has_narrow_multipliers (Blind node) = true
+has_narrow_multipliers (Split node arc k) = true
+has_narrow_multipliers (Labels labels streets) = true
+
+-- the letter is that of a record which is neither a tour nor a bound
 abbrev pub is_later_letter : ℕ → Bool
 is_later_letter letter = list_any (λ byte. letter == byte) (codes "corkeapzsn")
 
@@ -30,23 +61,15 @@ abbrev pub is_later : List ℕ → Bool
 is_later [] = false
 is_later (letter ∷ rest) = is_later_letter letter && goes_on letter rest
 
--- a line in the shape of its letter: `t` a tour, `b` a bound
+-- a line in the shape of its letter
 abbrev pub has_shape : List ℕ → Bool
 has_shape [] = false
-has_shape (letter ∷ rest) =
-    is_spaced rest && ((letter == 116) && has_tour_shape (parts_of rest) || ((letter == 98) && has_bound_shape (parts_of rest)))
-
--- the record that a line of its kind spells, where its parts are written right
-abbrev pub spelled_by : (List (List ℕ) → Bool) → (List (List ℕ) → Record) → List ℕ → Option Record
-spelled_by are_parts read rest = if is_spaced rest && are_parts (parts_of rest) then Some (read (parts_of rest)) else None
+has_shape (letter ∷ rest) = is_spaced rest && has_parts_shape letter (parts_of rest)
 
 -- the record that a line spells
 unfoldable pub spelled : List ℕ → Option Record
 spelled [] = None
-spelled (letter ∷ rest) =
-    if letter == 116 then spelled_by are_tour_parts tour_of rest
-    else if letter == 98 then spelled_by are_bound_parts bound_of rest
-    else None
+spelled (letter ∷ rest) = if is_spaced rest then record_in letter (parts_of rest) else None
 
 -- the line spells a record that keeps the number rules
 pub record IsLineOf (item : Record) (line : List ℕ) : Type 0 where
@@ -55,20 +78,20 @@ pub record IsLineOf (item : Record) (line : List ℕ) : Type 0 where
 
 -- the fault of a line: Form where it isn't in its shape, else Number
 abbrev pub IsFaultOf : List ℕ → ViewFault → Type 0
-IsFaultOf line (faults.Form at) = (length line ≤ 2 ^ 28) × (is_later line ≡ false) × (has_shape line ≡ false) × (at ≤ length line)
-IsFaultOf line (faults.Number at) = (length line ≤ 2 ^ 28) × (is_later line ≡ false) × (has_shape line ≡ true) × (at ≤ length line)
+IsFaultOf line (faults.Form at) = (length line ≤ 2 ^ 28) × (has_shape line ≡ false) × (at ≤ length line)
+IsFaultOf line (faults.Number at) = (length line ≤ 2 ^ 28) × (has_shape line ≡ true) × (at ≤ length line)
 IsFaultOf line faults.Long = 2 ^ 28 < length line
-IsFaultOf line faults.Later = (length line ≤ 2 ^ 28) × (is_later line ≡ true)
 
--- the record that the parts of a line spell, where they are parts of its kind
-pub record IsReadAs (are_parts : List (List ℕ) → Bool) (read : List (List ℕ) → Record) (rest : List ℕ) (item : Record) : Type 0 where
-  pub spaced : is_spaced rest ≡ true
-  pub parts : are_parts (parts_of rest) ≡ true
-  pub same : item ≡ read (parts_of rest)
+-- the fault of a line as a reader of records says it, who may want memory
+abbrev pub IsLineFaultOf : List ℕ → LineFault → Type 0
+IsLineFaultOf line (line_faults.Form at) = (length line ≤ 2 ^ 28) × (has_shape line ≡ false) × (at ≤ length line)
+IsLineFaultOf line (line_faults.Number at) = (length line ≤ 2 ^ 28) × (has_shape line ≡ true) × (at ≤ length line)
+IsLineFaultOf line line_faults.Long = 2 ^ 28 < length line
+IsLineFaultOf line line_faults.Memory = ⊤
 
--- a fault of Form where the shape is broken, else of Number, at a place within the line
-abbrev pub IsShapeFault : Bool → ℕ → ViewFault → Type 0
-IsShapeFault is_shaped end (faults.Form at) = (is_shaped ≡ false) × (at ≤ end)
-IsShapeFault is_shaped end (faults.Number at) = (is_shaped ≡ true) × (at ≤ end)
-IsShapeFault is_shaped end faults.Long = ⊥
-IsShapeFault is_shaped end faults.Later = ⊥
+-- where a record isn't read, the line spells none, or it is long or memory is wanting
+abbrev pub IsWithoutRecord : List ℕ → LineFault → Type 0
+IsWithoutRecord line (line_faults.Form at) = spelled line ≡ None
+IsWithoutRecord line (line_faults.Number at) = spelled line ≡ None
+IsWithoutRecord line line_faults.Long = ⊤
+IsWithoutRecord line line_faults.Memory = ⊤

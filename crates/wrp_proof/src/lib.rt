@@ -4,18 +4,26 @@
 
 mod end;
 mod fault;
+mod labels;
+mod numbers;
+mod owned;
 mod parts;
 mod place;
+mod ranges;
 mod reading;
 mod record;
 mod rule;
 mod text;
 mod views;
+mod writing;
 
 pub use end::{is_later_end, read_end};
 pub use fault::LineFault;
+pub use numbers::NumbersOf;
+pub use owned::{read_record, to_record};
 pub use parts::{PairsOf, StepsOf};
-pub use reading::view;
+pub use reading::{is_later, view};
 pub use record::{End, Record};
 pub use rule::Rule;
 pub use views::{View, ViewFault};
+pub use writing::write_end;

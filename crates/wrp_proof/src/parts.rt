@@ -1,19 +1,19 @@
-//! The parts of a line that are still to be read: steps, numbers or pairs, lent from the line.
+//! The parts of a line that are still to be read: steps or pairs, lent from the line.
 //! Nothing here takes memory.
-ghost use Rattle.std.specs.Prelude.{nat_lt, nat_le, ◌+◌, Some, None, if◌then◌else◌, ◌≡◌, ◌<◌, ◌^◌, ◌&&◌, ◌∷◌, [], map, true, is_some, IfSome, IfNone};
+ghost use Rattle.std.specs.Prelude.{nat_lt, nat_le, length, ◌+◌, Some, None, if◌then◌else◌, ◌≡◌, ◌<◌, ◌≤◌, ◌^◌, ◌&&◌, ◌∷◌, [], map, true, is_some, IfSome, IfNone};
 ghost use Rattle.std.specs.List.{list_all, join_with_byte};
 ghost use Rattle.wrp_proof.specs.Lines.{step_text, pair_text};
-ghost use Rattle.wrp_proof.specs.Parts.{parts_of, is_step, step_of, is_pair, pair_of, are_multiplier_parts};
+ghost use Rattle.wrp_proof.specs.Parts.{parts_of, is_step, step_of, is_pair, pair_of, are_multiplier_parts, are_pair_parts};
 
 use crate::text::{read_pair, read_step, split_part};
 use std::marker::Model;
 use wrp_town::Step;
 
 /// The second number of each pair is at most this.
-const MOST_SECOND: u128 = 1 << 60;
+const MOST_SECOND: u128 = 1 << 72;
 
 /// A record has at most as many multipliers.
-const MOST_MULTIPLIERS: u32 = 4096;
+const MOST_MULTIPLIERS: usize = 4096;
 
 /// The steps that are left of a line. Contracts see the list of the steps.
 #[derive(Debug, Drop)]
@@ -95,12 +95,26 @@ impl<'a> Model for PairsOf<'a> {
 
 impl<'a> PairsOf<'a> {
     /// The multipliers of parts, where they are written right: ascending first numbers, second numbers
-    /// from 1 to 2^60, and at most 4,096 of them.
-    pub(crate) fn multipliers(left: &'a [u8]) -> Option<PairsOf<'a>>
-        ensures some { is_some result ≡ are_multiplier_parts (2 ^ 60) (parts_of left.now) }
-        ensures pairs { IfSome result (λ s. s ≡ map pair_of (parts_of left.now)) }
+    /// from 1 to `most`, and at most 4,096 of them.
+    #[tactic(auto, using(crate::proofs::PairLists::few_multipliers))]
+    pub(crate) fn multipliers(left: &'a [u8], most: u128) -> Option<PairsOf<'a>>
+        requires { most ≤ 2 ^ 72 }
+        ensures { result ≡ (if are_multiplier_parts most (parts_of left.now) then Some (map pair_of (parts_of left.now)) else None) }
     {
-        if are_multipliers_text(left, 1 << 60) {
+        if are_pairs_text(left, most, MOST_MULTIPLIERS) {
+            Some(PairsOf { left })
+        } else {
+            None
+        }
+    }
+
+    /// The pairs of parts, where they are written right: ascending first numbers, and second numbers from
+    /// 1 to 2^72.
+    #[tactic(auto, using(crate::proofs::PairLists::few_pairs))]
+    pub(crate) fn pairs(left: &'a [u8]) -> Option<PairsOf<'a>>
+        ensures { result ≡ (if are_pair_parts (2 ^ 72) (parts_of left.now) then Some (map pair_of (parts_of left.now)) else None) }
+    {
+        if are_pairs_text(left, MOST_SECOND, left.len()) {
             Some(PairsOf { left })
         } else {
             None
@@ -149,13 +163,14 @@ fn are_steps(line: &[u8]) -> bool
     true
 }
 
-/// Whether the parts that are left are multipliers, written right, each from 1 to `most`.
-fn are_multipliers_text(line: &[u8], most: u128) -> bool
+/// Whether the parts that are left are pairs, written right, their first numbers ascending, their second
+/// numbers from 1 to `most`, and at most `few` of them.
+fn are_pairs_text(line: &[u8], most: u128, few: usize) -> bool
     requires { most < 2 ^ 99 }
-    ensures { result ≡ are_multiplier_parts most (parts_of line.now) }
+    ensures { result ≡ (are_pair_parts most (parts_of line.now) && nat_le (length (parts_of line.now)) few) }
 {
     let mut left = line;
-    let mut room = MOST_MULTIPLIERS;
+    let mut room = few;
     let mut low = 0;
     while let Some((part, others)) = split_part(left) {
         match next_least(part, most, low, room) {
@@ -170,7 +185,7 @@ fn are_multipliers_text(line: &[u8], most: u128) -> bool
 
 /// The least first number of the pair after this one, where this is a pair that has room and whose first
 /// number is at least `low`.
-fn next_least(part: &[u8], most: u128, low: u64, room: u32) -> Option<u64>
+fn next_least(part: &[u8], most: u128, low: u64, room: usize) -> Option<u64>
     requires { most < 2 ^ 99 }
     ensures { result ≡ (if is_pair most part.now && (nat_lt 0 room && nat_le low (pair_of part.now).0)
         then Some ((pair_of part.now).0 + 1) else None) }

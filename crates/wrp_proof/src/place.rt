@@ -1,28 +1,184 @@
-//! Where a line that has no view breaks its shape, or a number its rule. Nothing here takes memory.
-ghost use Rattle.std.specs.Prelude.{◌≡◌, ◌<◌, ◌≤◌, ◌+◌, ◌^◌, not, is_some, length, IfSome, IfErr};
+//! Where a line that has no view breaks the shape of its kind. Nothing here takes memory.
+ghost use Rattle.std.specs.Prelude.{◌≡◌, ◌<◌, ◌≤◌, ◌+◌, ◌^◌, not, is_some, length, IfSome};
 ghost use Rattle.std.specs.List.{list_all};
-ghost use Rattle.wrp_proof.specs.Parts.{parts_of, is_step_shape, is_pair_shape};
-ghost use Rattle.wrp_proof.specs.Shapes.{has_tour_shape, has_den_shape, has_bound_shape};
+ghost use Rattle.wrp_proof.specs.Parts.{parts_of, is_digits, is_step_shape, is_pair_shape};
+ghost use Rattle.wrp_proof.specs.Shapes.{is_nothing, has_labels_shape, has_tail_shape, one_then, two_then, three_then, has_parts_shape};
 
-use crate::text::{
-    halves, is_digits_text, is_sign_byte, read_count, read_from_one, read_index, read_step,
-    split_part,
-};
+use crate::labels::is_slash_text;
+use crate::text::{halves, is_digits_text, is_sign_byte, split_part};
 
-/// The place at which what is left of a line breaks the shape of a tour.
-pub(crate) fn tour_form(left: &[u8]) -> Option<usize>
-    ensures broken { is_some result ≡ not (has_tour_shape (parts_of left.now)) }
+/// What follows the first numbers of a record's line.
+#[derive(Clone, Copy, Debug, PartialEq, Eq)]
+pub(crate) enum Tail {
+    /// Steps of a tour.
+    Steps,
+    /// Pairs of a number of a row or an arc and a number.
+    Pairs,
+    /// Numbers of junctions or sets.
+    Numbers,
+    /// Labels, a slash, and streets.
+    Labels,
+    /// No part.
+    Nothing,
+}
+
+/// The place at which a line with this letter, which goes on with `left`, breaks the shape of its kind.
+pub(crate) fn form_place(letter: u8, left: &[u8]) -> Option<usize>
+    requires { length left.now < 2 ^ 28 }
+    ensures broken { is_some result ≡ not (has_parts_shape letter (parts_of left.now)) }
+    ensures within { IfSome result (λ at. at ≤ length left.now + 1) }
+{
+    let at = match letter {
+        b't' => one_form(left, Tail::Steps),
+        b'c' => two_form(left, Tail::Numbers),
+        b'o' => tail_form(left, Tail::Numbers),
+        b'r' => one_form(left, Tail::Pairs),
+        b'k' => one_form(left, Tail::Numbers),
+        b'b' => two_form(left, Tail::Pairs),
+        b'e' => one_form(left, Tail::Pairs),
+        b'a' => three_form(left, Tail::Numbers),
+        b'p' => two_form(left, Tail::Pairs),
+        b'z' => one_form(left, Tail::Nothing),
+        b's' => three_form(left, Tail::Nothing),
+        b'n' => tail_form(left, Tail::Labels),
+        _ => return Some(0),
+    };
+    behind_letter(at)
+}
+
+/// A place behind a line's letter, counted from the letter.
+fn behind_letter(at: Option<usize>) -> Option<usize>
+    requires { IfSome at (λ at. at < 2 ^ 28) }
+    ensures some { is_some result ≡ is_some at }
+    ensures place { IfSome at (λ place. IfSome result (λ at. at ≡ place + 1)) }
+{
+    match at {
+        Some(at) => Some(1 + at),
+        None => None,
+    }
+}
+
+/// The place at which what is left of a line breaks the shape of three numbers and what follows them.
+fn three_form(left: &[u8], tail: Tail) -> Option<usize>
+    ensures broken { is_some result ≡ not (three_then tail (parts_of left.now)) }
     ensures within { IfSome result (λ at. at ≤ length left.now) }
 {
-    let Some((cost, steps)) = split_part(left) else {
+    let Some((number, others)) = split_part(left) else {
         return Some(0);
     };
-    if !is_digits_text(cost) {
-        return Some(1 + digits_before(cost));
+    if !is_digits_text(number) {
+        return Some(1 + digits_before(number));
     }
-    match steps_form(steps) {
-        Some(at) => Some(1 + cost.len() + at),
+    match two_form(others, tail) {
+        Some(at) => Some(1 + number.len() + at),
         None => None,
+    }
+}
+
+/// The place at which what is left of a line breaks the shape of two numbers and what follows them.
+fn two_form(left: &[u8], tail: Tail) -> Option<usize>
+    ensures broken { is_some result ≡ not (two_then tail (parts_of left.now)) }
+    ensures within { IfSome result (λ at. at ≤ length left.now) }
+{
+    let Some((number, others)) = split_part(left) else {
+        return Some(0);
+    };
+    if !is_digits_text(number) {
+        return Some(1 + digits_before(number));
+    }
+    match one_form(others, tail) {
+        Some(at) => Some(1 + number.len() + at),
+        None => None,
+    }
+}
+
+/// The place at which what is left of a line breaks the shape of a number and what follows it.
+fn one_form(left: &[u8], tail: Tail) -> Option<usize>
+    ensures broken { is_some result ≡ not (one_then tail (parts_of left.now)) }
+    ensures within { IfSome result (λ at. at ≤ length left.now) }
+{
+    let Some((number, others)) = split_part(left) else {
+        return Some(0);
+    };
+    if !is_digits_text(number) {
+        return Some(1 + digits_before(number));
+    }
+    match tail_form(others, tail) {
+        Some(at) => Some(1 + number.len() + at),
+        None => None,
+    }
+}
+
+/// The place at which what is left of a line breaks the shape of what follows the first numbers.
+fn tail_form(left: &[u8], tail: Tail) -> Option<usize>
+    ensures broken { is_some result ≡ not (has_tail_shape tail (parts_of left.now)) }
+    ensures within { IfSome result (λ at. at ≤ length left.now) }
+{
+    match tail {
+        Tail::Steps => steps_form(left),
+        Tail::Pairs => pairs_form(left),
+        Tail::Numbers => numbers_form(left),
+        Tail::Labels => labels_form(left),
+        Tail::Nothing => nothing_form(left),
+    }
+}
+
+/// The place at which what is left of a line breaks the shape of no part.
+fn nothing_form(left: &[u8]) -> Option<usize>
+    ensures broken { is_some result ≡ not (is_nothing (parts_of left.now)) }
+    ensures within { IfSome result (λ at. at ≤ length left.now) }
+{
+    if split_part(left).is_some() {
+        Some(0)
+    } else {
+        None
+    }
+}
+
+/// The place at which what is left of a line breaks the shape of numbers.
+fn numbers_form(line: &[u8]) -> Option<usize>
+    ensures broken { is_some result ≡ not (list_all is_digits (parts_of line.now)) }
+    ensures within { IfSome result (λ at. at ≤ length line.now) }
+{
+    let mut left = line;
+    while let Some((part, others)) = split_part(left) {
+        if !is_digits_text(part) {
+            return Some(line.len() - left.len() + 1 + digits_before(part));
+        }
+        left = others;
+    }
+    None
+}
+
+/// The place at which what is left of a line breaks the shape of labels, a slash, and streets.
+fn labels_form(line: &[u8]) -> Option<usize>
+    ensures broken { is_some result ≡ not (has_labels_shape (parts_of line.now)) }
+    ensures within { IfSome result (λ at. at ≤ length line.now) }
+{
+    let mut left = line;
+    while let Some((part, others)) = split_part(left) {
+        if is_slash_text(part) {
+            let place = line.len() - others.len();
+            return match numbers_form(others) {
+                Some(at) => Some(place + at),
+                None => None,
+            };
+        }
+        if !is_digits_text(part) {
+            return Some(line.len() - left.len() + 1 + label_form(part));
+        }
+        left = others;
+    }
+    Some(line.len())
+}
+
+/// The place at which a part breaks the shapes of a label and of a slash.
+fn label_form(part: &[u8]) -> usize
+    ensures { result ≤ length part.now }
+{
+    match part.first() {
+        Some(byte) if *byte == b'/' => 1,
+        _ => digits_before(part),
     }
 }
 
@@ -75,40 +231,6 @@ pub(crate) fn digits_before(part: &[u8]) -> usize
     part.len()
 }
 
-/// The place at which what is left of a line breaks the shape of a bound.
-pub(crate) fn bound_form(left: &[u8]) -> Option<usize>
-    ensures broken { is_some result ≡ not (has_bound_shape (parts_of left.now)) }
-    ensures within { IfSome result (λ at. at ≤ length left.now) }
-{
-    let Some((node, others)) = split_part(left) else {
-        return Some(0);
-    };
-    if !is_digits_text(node) {
-        return Some(1 + digits_before(node));
-    }
-    match den_form(others) {
-        Some(at) => Some(1 + node.len() + at),
-        None => None,
-    }
-}
-
-/// The place at which what is left of a line breaks the shape of a denominator and pairs.
-fn den_form(left: &[u8]) -> Option<usize>
-    ensures broken { is_some result ≡ not (has_den_shape (parts_of left.now)) }
-    ensures within { IfSome result (λ at. at ≤ length left.now) }
-{
-    let Some((den, pairs)) = split_part(left) else {
-        return Some(0);
-    };
-    if !is_digits_text(den) {
-        return Some(1 + digits_before(den));
-    }
-    match pairs_form(pairs) {
-        Some(at) => Some(1 + den.len() + at),
-        None => None,
-    }
-}
-
 /// The place at which what is left of a line breaks the shape of pairs.
 fn pairs_form(line: &[u8]) -> Option<usize>
     ensures broken { is_some result ≡ not (list_all is_pair_shape (parts_of line.now)) }
@@ -142,92 +264,4 @@ fn pair_form(part: &[u8]) -> usize
     } else {
         first
     }
-}
-
-/// The place of the first number of a tour that breaks a rule.
-pub(crate) fn tour_number(left: &[u8]) -> usize
-    ensures { result ≤ length left.now }
-{
-    let Some((cost, steps)) = split_part(left) else {
-        return 0;
-    };
-    if read_count(cost).is_none() {
-        return 1;
-    }
-    1 + cost.len() + steps_number(steps)
-}
-
-/// The place of the first number of steps that breaks a rule.
-fn steps_number(line: &[u8]) -> usize
-    ensures { result ≤ length line.now }
-{
-    let mut left = line;
-    while let Some((part, others)) = split_part(left) {
-        if read_step(part).is_none() {
-            return line.len() - left.len() + 1;
-        }
-        left = others;
-    }
-    line.len()
-}
-
-/// The place of the first number of a bound that breaks a rule.
-pub(crate) fn bound_number(left: &[u8]) -> usize
-    ensures { result ≤ length left.now }
-{
-    let Some((node, others)) = split_part(left) else {
-        return 0;
-    };
-    if read_count(node).is_none() {
-        return 1;
-    }
-    1 + node.len() + den_number(others)
-}
-
-/// The place of the first number of a denominator and multipliers that breaks a rule.
-fn den_number(left: &[u8]) -> usize
-    ensures { result ≤ length left.now }
-{
-    let Some((den, pairs)) = split_part(left) else {
-        return 0;
-    };
-    if read_from_one(den, 1 << 40).is_none() {
-        return 1;
-    }
-    1 + den.len() + pairs_number(pairs, 1 << 60)
-}
-
-/// The place of the first number of multipliers that breaks a rule.
-fn pairs_number(line: &[u8], most: u128) -> usize
-    requires { most < 2 ^ 99 }
-    ensures { result ≤ length line.now }
-{
-    let mut left = line;
-    let mut room = 4096u32;
-    let mut low = 0;
-    while let Some((part, others)) = split_part(left) {
-        match pair_number(part, most, low, room) {
-            Ok(next) => low = next,
-            Err(at) => return line.len() - left.len() + 1 + at,
-        }
-        room = room.saturating_sub(1);
-        left = others;
-    }
-    line.len()
-}
-
-/// The least first number of the next pair, or the place of this pair's first number that breaks a rule.
-fn pair_number(part: &[u8], most: u128, low: u64, room: u32) -> Result<u64, usize>
-    requires { most < 2 ^ 99 }
-    ensures { IfErr result (λ at. at ≤ length part.now) }
-{
-    let (first, second) = halves(part);
-    let row = match read_index(first) {
-        Some(row) if room > 0 && u64::from(row) >= low => u64::from(row),
-        _ => return Err(0),
-    };
-    if read_from_one(second, most).is_none() {
-        return Err(part.len() - second.len());
-    }
-    Ok(row + 1)
 }

@@ -1,99 +1,107 @@
 //! Reads the lines of records. This takes no memory.
-ghost use Rattle.std.specs.Prelude.{◌≡◌, ◌∷◌, ◌&&◌, ◌+◌, ◌^◌, ◌<◌, ◌≤◌, false, Some, None, is_some, length, IfOk, IfErr, IfSome};
+ghost use Rattle.std.specs.Prelude.{◌≡◌, ◌∷◌, ◌^◌, ◌≤◌, Some, None, true, length, IfOk, IfErr};
+ghost use Rattle.std.specs.Option.{option_map};
 ghost use Rattle.wrp_proof.specs.declared.record.Record.{Record};
-ghost use Rattle.wrp_proof.specs.declared.views.ViewFault.TheVariants as faults;
-ghost use Rattle.wrp_proof.specs.Parts.{parts_of, is_spaced};
-ghost use Rattle.wrp_proof.specs.Shapes.{are_tour_parts, tour_of, are_bound_parts, bound_of, has_tour_shape, has_bound_shape};
-ghost use Rattle.wrp_proof.specs.Views.{record_of, is_later_letter, is_later, spelled, IsLineOf, IsReadAs, IsFaultOf, IsShapeFault};
+ghost use Rattle.wrp_proof.specs.Parts.{is_spaced, parts_of};
+ghost use Rattle.wrp_proof.specs.Spelling.{record_in, tour_in, conn_in, odd_in, round_in, kc_in, bound_in, empty_in, apart_in, point_in, blind_in, split_in, labels_in};
+ghost use Rattle.wrp_proof.specs.Views.{record_of, is_later_letter, goes_on as goes_on_behind, is_later as is_later_line, spelled as record_spelled, IsLineOf, IsFaultOf};
 
+use crate::labels::label_halves;
+use crate::numbers::NumbersOf;
 use crate::parts::{PairsOf, StepsOf};
-use crate::place::{bound_form, bound_number, tour_form, tour_number};
-use crate::text::{goes_on_with_space, read_count, read_from_one, split_part};
+use crate::place::form_place;
+use crate::ranges::number_place;
+use crate::text::{goes_on_with_space, read_count, read_from_one, read_index, split_part};
 use crate::views::{View, ViewFault};
 
 /// A line of a proof has at most as many bytes.
 const MOST_BYTES: usize = 1 << 28;
 
 /// The view of the line of a record.
-#[tactic(auto, unfolding(crate::specs::Views::spelled))]
 pub fn view(line: &[u8]) -> Result<View<'_>, ViewFault>
     ensures found { IfOk result (λ v. IsLineOf (record_of v) line.now) }
-    ensures spelled { IfOk result (λ v. spelled line.now ≡ Some (record_of v)) }
+    ensures spelled { IfOk result (λ v. record_spelled line.now ≡ Some (record_of v)) }
     ensures short { IfOk result (λ v. length line.now ≤ 2 ^ 28) }
     ensures fault { IfErr result (λ fault. IsFaultOf line.now fault) }
-    // No record is spelled by a line that is refused, unless it is long or of a later kind.
-    ensures only { IfErr result (λ fault. (item : Record) → IsLineOf item line.now
-        → length line.now ≤ 2 ^ 28 → fault ≡ faults.Later) }
-    ensures none { IfErr result (λ fault. length line.now ≤ 2 ^ 28 → spelled line.now ≡ None) }
+    // No record is spelled by a line that is refused, unless it is long.
+    ensures only { IfErr result (λ fault. (item : Record) → IsLineOf item line.now → length line.now ≤ 2 ^ 28 → ⊥) }
+    ensures none { IfErr result (λ fault. length line.now ≤ 2 ^ 28 → record_spelled line.now ≡ None) }
 {
     if line.len() > MOST_BYTES {
         return Err(ViewFault::Long);
     }
-    match line.split_first() {
-        Some((letter, rest)) => view_of_letter(*letter, rest),
-        None => Err(ViewFault::Form { at: 0 }),
+    match view_of_line(line) {
+        Some(view) => Ok(view),
+        None => Err(fault_of(line)),
     }
 }
 
-/// The view of the line with this letter that goes on with `rest`.
-fn view_of_letter(letter: u8, rest: &[u8]) -> Result<View<'_>, ViewFault>
-    requires { length rest.now < 2 ^ 28 }
-    ensures found { IfOk result (λ v. IsLineOf (record_of v) (letter ∷ rest.now)) }
-    ensures spelled { IfOk result (λ v. spelled (letter ∷ rest.now) ≡ Some (record_of v)) }
-    ensures fault { IfErr result (λ fault. IsFaultOf (letter ∷ rest.now) fault) }
-    ensures only { IfErr result (λ fault. (item : Record) → IsLineOf item (letter ∷ rest.now) → fault ≡ faults.Later) }
-    ensures none { IfErr result (λ fault. spelled (letter ∷ rest.now) ≡ None) }
+/// Whether the line has the letter of a record that is neither a tour nor a bound, and goes on with a
+/// space; or is the letter `o` alone.
+pub fn is_later(line: &[u8]) -> bool
+    ensures { result ≡ is_later_line line.now }
 {
-    if letter == b't' {
-        return view_of_tour(rest);
+    match line.split_first() {
+        Some((letter, rest)) => is_later_kind(*letter) && goes_on(*letter, rest),
+        None => false,
     }
-    if letter == b'b' {
-        return view_of_bound(rest);
-    }
-    if is_later_line(letter, rest) {
-        return Err(ViewFault::Later);
-    }
-    Err(ViewFault::Form { at: 0 })
 }
 
-/// Whether this is the letter of a record that views don't read yet.
-fn is_later(letter: u8) -> bool
+/// Whether the letter is that of a record that is neither a tour nor a bound.
+fn is_later_kind(letter: u8) -> bool
     ensures { result ≡ is_later_letter letter }
 {
     b"corkeapzsn".iter().any(|byte| letter == *byte)
 }
 
-/// Whether a line with this letter that goes on with `rest` is of a kind that views don't read yet.
-fn is_later_line(letter: u8, rest: &[u8]) -> bool
-    ensures { result ≡ is_later (letter ∷ rest.now) }
+/// Whether a line goes on behind its letter as a record's line does.
+fn goes_on(letter: u8, rest: &[u8]) -> bool
+    ensures { result ≡ goes_on_behind letter rest.now }
 {
-    is_later(letter)
-        && match rest.first() {
-            Some(byte) => *byte == b' ',
-            None => letter == b'o',
-        }
-}
-
-/// The view of the line of a tour, behind its letter.
-fn view_of_tour(rest: &[u8]) -> Result<View<'_>, ViewFault>
-    requires { length rest.now < 2 ^ 28 }
-    ensures found { IfOk result (λ v. IsReadAs are_tour_parts tour_of rest.now (record_of v)) }
-    ensures broken { IfErr result (λ _. (is_spaced rest.now && are_tour_parts (parts_of rest.now)) ≡ false) }
-    ensures fault { IfErr result (λ fault. IsShapeFault (is_spaced rest.now && has_tour_shape (parts_of rest.now)) (length rest.now + 1) fault) }
-{
-    if !goes_on_with_space(rest) {
-        return Err(ViewFault::Form { at: 1 });
-    }
-    match read_tour(rest) {
-        Some(view) => Ok(view),
-        None => Err(tour_fault(rest)),
+    match rest.first() {
+        Some(byte) => *byte == b' ',
+        None => letter == b'o',
     }
 }
 
-/// The view of the parts of a tour.
+/// The view of the record that a line spells.
+#[tactic(auto, unfolding(crate::specs::Views::spelled))]
+fn view_of_line(line: &[u8]) -> Option<View<'_>>
+    ensures { option_map record_of result ≡ record_spelled line.now }
+{
+    let (letter, rest) = line.split_first()?;
+    if goes_on_with_space(rest) {
+        read_record_parts(*letter, rest)
+    } else {
+        None
+    }
+}
+
+/// The view of the record with this letter and these parts.
+fn read_record_parts(letter: u8, left: &[u8]) -> Option<View<'_>>
+    requires { is_spaced left.now ≡ true }
+    ensures { option_map record_of result ≡ record_in letter (parts_of left.now) }
+{
+    match letter {
+        b't' => read_tour(left),
+        b'c' => read_conn(left),
+        b'o' => read_odd(left),
+        b'r' => read_round(left),
+        b'k' => read_kc(left),
+        b'b' => read_bound(left),
+        b'e' => read_empty(left),
+        b'a' => read_apart(left),
+        b'p' => read_point(left),
+        b'z' => read_blind(left),
+        b's' => read_split(left),
+        b'n' => read_labels(left),
+        _ => None,
+    }
+}
+
+/// A tour: its cost, and its steps.
 fn read_tour(left: &[u8]) -> Option<View<'_>>
-    ensures some { is_some result ≡ are_tour_parts (parts_of left.now) }
-    ensures record { IfSome result (λ v. record_of v ≡ tour_of (parts_of left.now)) }
+    ensures { option_map record_of result ≡ tour_in (parts_of left.now) }
 {
     let (cost, steps) = split_part(left)?;
     let cost = read_count(cost)?;
@@ -101,58 +109,162 @@ fn read_tour(left: &[u8]) -> Option<View<'_>>
     Some(View::Tour { cost, steps })
 }
 
-/// The fault of the parts of a tour.
-fn tour_fault(left: &[u8]) -> ViewFault
-    requires { length left.now < 2 ^ 28 }
-    ensures { IsShapeFault (has_tour_shape (parts_of left.now)) (length left.now + 1) result }
+/// A connectivity cut: two streets, and the junctions of a set.
+fn read_conn(left: &[u8]) -> Option<View<'_>>
+    ensures { option_map record_of result ≡ conn_in (parts_of left.now) }
 {
-    match tour_form(left) {
-        Some(at) => ViewFault::Form { at: 1 + at as u64 },
-        None => ViewFault::Number {
-            at: 1 + tour_number(left) as u64,
-        },
-    }
+    let (r1, left) = split_part(left)?;
+    let (r2, set) = split_part(left)?;
+    let r1 = read_index(r1)?;
+    let r2 = read_index(r2)?;
+    let set = NumbersOf::set(set)?;
+    Some(View::Conn { r1, r2, set })
 }
 
-/// The view of the line of a bound, behind its letter.
-fn view_of_bound(rest: &[u8]) -> Result<View<'_>, ViewFault>
-    requires { length rest.now < 2 ^ 28 }
-    ensures found { IfOk result (λ v. IsReadAs are_bound_parts bound_of rest.now (record_of v)) }
-    ensures broken { IfErr result (λ _. (is_spaced rest.now && are_bound_parts (parts_of rest.now)) ≡ false) }
-    ensures fault { IfErr result (λ fault. IsShapeFault (is_spaced rest.now && has_bound_shape (parts_of rest.now)) (length rest.now + 1) fault) }
+/// An odd cut: the junctions of a set.
+fn read_odd(left: &[u8]) -> Option<View<'_>>
+    ensures { option_map record_of result ≡ odd_in (parts_of left.now) }
 {
-    if !goes_on_with_space(rest) {
-        return Err(ViewFault::Form { at: 1 });
-    }
-    match read_bound(rest) {
-        Some(view) => Ok(view),
-        None => Err(bound_fault(rest)),
-    }
+    let set = NumbersOf::set(left)?;
+    Some(View::Odd { set })
 }
 
-/// The view of the parts of a bound.
+/// A rounding: its divisor, and multipliers.
+fn read_round(left: &[u8]) -> Option<View<'_>>
+    ensures { option_map record_of result ≡ round_in (parts_of left.now) }
+{
+    let (divisor, mult) = split_part(left)?;
+    let divisor = read_from_one(divisor, 1 << 20)? as u64;
+    let mult = PairsOf::multipliers(mult, 1 << 40)?;
+    Some(View::Round { divisor, mult })
+}
+
+/// A K-C cut: `k`, and the number of each junction's set.
+fn read_kc(left: &[u8]) -> Option<View<'_>>
+    ensures { option_map record_of result ≡ kc_in (parts_of left.now) }
+{
+    let (k, of) = split_part(left)?;
+    let k = read_index(k)?;
+    let of = NumbersOf::indexes(of)?;
+    Some(View::Kc { k, of })
+}
+
+/// A bound: its node, its denominator, and multipliers.
 fn read_bound(left: &[u8]) -> Option<View<'_>>
-    ensures some { is_some result ≡ are_bound_parts (parts_of left.now) }
-    ensures record { IfSome result (λ v. record_of v ≡ bound_of (parts_of left.now)) }
+    ensures { option_map record_of result ≡ bound_in (parts_of left.now) }
 {
-    let (node, others) = split_part(left)?;
+    let (node, left) = split_part(left)?;
+    let (den, mult) = split_part(left)?;
     let node = read_count(node)?;
-    let (den, mult) = split_part(others)?;
     let den = read_from_one(den, 1 << 40)? as u64;
-    let mult = PairsOf::multipliers(mult)?;
+    let mult = PairsOf::multipliers(mult, 1 << 60)?;
     Some(View::Bound { node, den, mult })
 }
 
-/// The fault of the parts of a bound.
-fn bound_fault(left: &[u8]) -> ViewFault
-    requires { length left.now < 2 ^ 28 }
-    ensures { IsShapeFault (has_bound_shape (parts_of left.now)) (length left.now + 1) result }
+/// An emptied node: its number, and multipliers.
+fn read_empty(left: &[u8]) -> Option<View<'_>>
+    ensures { option_map record_of result ≡ empty_in (parts_of left.now) }
 {
-    match bound_form(left) {
-        Some(at) => ViewFault::Form { at: 1 + at as u64 },
+    let (node, mult) = split_part(left)?;
+    let node = read_count(node)?;
+    let mult = PairsOf::multipliers(mult, 1 << 60)?;
+    Some(View::Empty { node, mult })
+}
+
+/// A node set apart: its number, two streets, and the junctions of a set.
+fn read_apart(left: &[u8]) -> Option<View<'_>>
+    ensures { option_map record_of result ≡ apart_in (parts_of left.now) }
+{
+    let (node, left) = split_part(left)?;
+    let (r1, left) = split_part(left)?;
+    let (r2, set) = split_part(left)?;
+    let node = read_count(node)?;
+    let r1 = read_index(r1)?;
+    let r2 = read_index(r2)?;
+    let set = NumbersOf::set(set)?;
+    Some(View::Apart { node, r1, r2, set })
+}
+
+/// A point: its node, its denominator, and numbers of arcs.
+fn read_point(left: &[u8]) -> Option<View<'_>>
+    ensures { option_map record_of result ≡ point_in (parts_of left.now) }
+{
+    let (node, left) = split_part(left)?;
+    let (den, numbers) = split_part(left)?;
+    let node = read_count(node)?;
+    let den = read_from_one(den, 1 << 60)? as u64;
+    let numbers = PairsOf::pairs(numbers)?;
+    Some(View::Point { node, den, numbers })
+}
+
+/// Leave to split a node.
+fn read_blind(left: &[u8]) -> Option<View<'_>>
+    ensures { option_map record_of result ≡ blind_in (parts_of left.now) }
+{
+    let (node, left) = split_part(left)?;
+    if split_part(left).is_some() {
+        return None;
+    }
+    let node = read_count(node)?;
+    Some(View::Blind { node })
+}
+
+/// A split: its node, its arc, and a number of uses.
+fn read_split(left: &[u8]) -> Option<View<'_>>
+    ensures { option_map record_of result ≡ split_in (parts_of left.now) }
+{
+    let (node, left) = split_part(left)?;
+    let (arc, left) = split_part(left)?;
+    let (k, left) = split_part(left)?;
+    if split_part(left).is_some() {
+        return None;
+    }
+    let node = read_count(node)?;
+    let arc = read_index(arc)?;
+    let k = read_index(k)?;
+    Some(View::Split { node, arc, k })
+}
+
+/// Labels, and a street for each of them.
+fn read_labels(left: &[u8]) -> Option<View<'_>>
+    requires { is_spaced left.now ≡ true }
+    ensures { option_map record_of result ≡ labels_in (parts_of left.now) }
+{
+    let (labels, streets) = label_halves(left)?;
+    let labels = NumbersOf::indexes(labels)?;
+    let streets = NumbersOf::indexes(streets)?;
+    Some(View::Labels { labels, streets })
+}
+
+/// The fault of a line that spells no record.
+fn fault_of(line: &[u8]) -> ViewFault
+    requires { length line.now ≤ 2 ^ 28 }
+    ensures { IsFaultOf line.now result }
+{
+    let Some((letter, rest)) = line.split_first() else {
+        return ViewFault::Form { at: 0 };
+    };
+    if !goes_on_with_space(rest) {
+        return ViewFault::Form {
+            at: letter_length(*letter),
+        };
+    }
+    match form_place(*letter, rest) {
+        Some(at) => ViewFault::Form { at: at as u64 },
         None => ViewFault::Number {
-            at: 1 + bound_number(left) as u64,
+            at: 1 + number_place(*letter, rest) as u64,
         },
+    }
+}
+
+/// How many bytes of a line's letter stand in a line of a record.
+fn letter_length(letter: u8) -> u64
+    ensures { result ≤ 1 }
+{
+    if letter == b't' || letter == b'b' || is_later_kind(letter) {
+        1
+    } else {
+        0
     }
 }
 
@@ -223,7 +335,11 @@ mod tests {
             (b"t 5 0", Some(ViewFault::Form { at: 5 })),
             (b"t 5 0* 1+", Some(ViewFault::Form { at: 5 })),
             (b"b 0 1 3:x", Some(ViewFault::Form { at: 8 })),
-            (b"o 0", Some(ViewFault::Later)),
+            (b"o 0", None),
+            (b"z 0 1", Some(ViewFault::Form { at: 3 })),
+            (b"x", Some(ViewFault::Form { at: 0 })),
+            (b"n 0 1", Some(ViewFault::Form { at: 5 })),
+            (b"o 2 1", Some(ViewFault::Number { at: 4 })),
         ] {
             assert_eq!(rt; fault_of(line), fault);
         }

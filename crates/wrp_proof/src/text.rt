@@ -24,6 +24,7 @@ fn bytes_before(bytes: &[u8], wanted: u8) -> usize
 pub(crate) fn split_part(left: &[u8]) -> Option<(&[u8], &[u8])>
     ensures some { IfSome result (λ x. parts_of left.now ≡ x.0.now ∷ parts_of x.1.now) }
     ensures length { IfSome result (λ x. length left.now ≡ length x.0.now + length x.1.now + 1) }
+    ensures spaced { IfSome result (λ x. is_spaced x.1.now ≡ true) }
     ensures none { IfNone result (left.now ≡ []) }
 {
     let (_, bytes) = left.split_first()?;
@@ -34,6 +35,7 @@ pub(crate) fn split_part(left: &[u8]) -> Option<(&[u8], &[u8])>
 pub(crate) fn first_part(bytes: &[u8]) -> (&[u8], &[u8])
     ensures parts { slice_split is_space bytes.now ≡ result.0.now ∷ parts_of result.1.now }
     ensures length { length bytes.now ≡ length result.0.now + length result.1.now }
+    ensures spaced { is_spaced result.1.now ≡ true }
 {
     bytes.split_at(bytes_before(bytes, b' '))
 }

@@ -1,4 +1,5 @@
 //! Views of records, lent from their lines.
+use crate::numbers::NumbersOf;
 use crate::parts::{PairsOf, StepsOf};
 
 /// A record, lent from its line. The lists give their parts one by one.
@@ -9,11 +10,64 @@ pub enum View<'a> {
         cost: u64,
         steps: StepsOf<'a>,
     },
+    /// A connectivity cut: two streets, and the junctions of a set.
+    Conn {
+        r1: u32,
+        r2: u32,
+        set: NumbersOf<'a>,
+    },
+    /// An odd cut: the junctions of a set.
+    Odd {
+        set: NumbersOf<'a>,
+    },
+    /// A rounding: earlier rows with their multipliers, over the divisor.
+    Round {
+        divisor: u64,
+        mult: PairsOf<'a>,
+    },
+    /// A K-C cut: the number of each junction's set, from 0 to `k`.
+    Kc {
+        k: u32,
+        of: NumbersOf<'a>,
+    },
     /// A bound of a node, by multipliers of rows over the denominator `den`.
     Bound {
         node: u64,
         den: u64,
         mult: PairsOf<'a>,
+    },
+    /// A node that holds no tour, by multipliers of rows.
+    Empty {
+        node: u64,
+        mult: PairsOf<'a>,
+    },
+    /// A node that holds no tour, as no arc leaves a set that holds `r1` and not `r2`.
+    Apart {
+        node: u64,
+        r1: u32,
+        r2: u32,
+        set: NumbersOf<'a>,
+    },
+    /// Numbers of arcs over the denominator `den`.
+    Point {
+        node: u64,
+        den: u64,
+        numbers: PairsOf<'a>,
+    },
+    /// Leave to split a node with no point.
+    Blind {
+        node: u64,
+    },
+    /// Two new nodes: one uses the arc at most `k` times, the other more often.
+    Split {
+        node: u64,
+        arc: u32,
+        k: u32,
+    },
+    /// A label for each junction and a street for each label.
+    Labels {
+        labels: NumbersOf<'a>,
+        streets: NumbersOf<'a>,
     },
 }
 
@@ -27,6 +81,4 @@ pub enum ViewFault {
     Number { at: u64 },
     /// The line has more than 2^28 bytes.
     Long,
-    /// The line has the letter of a record that views don't read yet.
-    Later,
 }

@@ -1,9 +1,9 @@
 use Rattle.wrp_proof.specs.Parts.{parts_of}
 use Rattle.wrp_proof.proofs.PairLists.{go_up-start, go_up-stops, go_up-goes}
-use Rattle.wrp_proof.proofs.parts.are_multipliers_text.Goals as goal
+use Rattle.wrp_proof.proofs.parts.are_pairs_text.Goals as goal
 
 pub loop-part-init : goal.loop-part-init
-loop-part-init c = go_up-start c.args.most (parts_of c.args.line.now)
+loop-part-init c = go_up-start c.args.most c.args.few (parts_of c.args.line.now)
 
 pub returns-in-None : goal.returns-in-None
 returns-in-None c =
