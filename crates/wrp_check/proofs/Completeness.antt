@@ -25,7 +25,8 @@ use Rattle.wrp_proof.proofs.Written.{text-number}
 use Rattle.wrp_proof.proofs.WrittenPairs.{number_digits}
 use Rattle.wrp_proof.proofs.Spacing.{spread}
 use Rattle.wrp_proof.proofs.PairLists.{index-of_most}
-use Rattle.wrp_proof.proofs.SpelledLaws.{is_viewed, Tried, passes-tried, line-spelled, end_line-spelled}
+use Rattle.wrp_proof.proofs.LineLaws.{line-spelled}
+use Rattle.wrp_proof.proofs.SpelledLaws.{is_viewed, Tried, passes-tried, end_line-spelled}
 use Rattle.wrp_check.specs.Streams.{most_bytes, is_one_line}
 use Rattle.wrp_check.specs.Verdicts.{Accepted, judged_line, judged_end, is_end, is_long, limit_of, verdict_on, verdict}
 use Rattle.wrp_check.specs.Accepted.{IsJudgedProof}
@@ -43,7 +44,7 @@ digits-one (x ∷ xs) h =
     apart c h = grind (arith, nat_tests)
 
 number-one : (n : ℕ) → n < 2 ^ 64 → is_one_line (decimal n) ≡ true
-number-one n small = digits-one (decimal n) (number_digits (decimal n) (text-number n small).0).1
+number-one n small = digits-one (decimal n) (number_digits (decimal n) (text-number n (omega (arith, small))).0).1
 
 -- two texts in a row
 both-one : (xs ys : List ℕ) → is_one_line xs ≡ true → is_one_line ys ≡ true → is_one_line (xs ++ ys) ≡ true
@@ -136,7 +137,7 @@ item-judged : (town : Town) (s : Standing) (item : Record) → Tried town s item
 item-judged town s item tried =
     let is = record_line_is item tried.viewed tried.numbers in
     let no_later = is.no_later in
-    let spells = line-spelled item tried.viewed tried.numbers in
+    let spells = line-spelled (line_of item) item (record { text = refl; numbers = tried.numbers }) in
     let unbroken = tried.unbroken in
     rw (no_later, spells, unbroken) refl
 

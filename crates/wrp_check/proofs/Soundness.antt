@@ -19,7 +19,7 @@ use Rattle.wrp_proof.specs.Judged.{is_judged, go_on_judged, judged_rule}
 use Rattle.wrp_proof.specs.Views.{is_later, has_shape, spelled}
 use Rattle.wrp_proof.specs.Ends.{is_later_end, has_end_shape, spelled_end}
 use Rattle.wrp_proof.specs.Proofs.{Version, version_1, version_2, ended, record_lines, IsProofBy, IsProof}
-use Rattle.wrp_proof.proofs.SpelledLaws.{spelled-line, spelled-end_line, judged-passes}
+use Rattle.wrp_proof.proofs.SpelledLaws.{spelled_viewed, spelled-end_line, judged-passes}
 use Rattle.wrp_laws.specs.Ends.{EndHolds}
 use Rattle.wrp_laws.proofs.PlainEnds.{proved_end}
 use Rattle.wrp_check.specs.Streams.{most_bytes}
@@ -82,8 +82,9 @@ record_ok town s fault (Some other) item h =
 line_ok : (town : Town) (s : Standing) (line : List ℕ) (item : Record) → judged_line town s line ≡ Ok item → IsJudgedLine town s line item
 line_ok town s line item h =
     let fault = cond (has_shape line) rules.Number rules.Form in
-    let found = record_ok town s fault (spelled line) item (chosen (is_later line) (Err rules.Later) (judged_record town s fault (spelled line)) (Ok item) (err_bad rules.Later item) h).1 in
-    let spells = spelled-line line item found.0 in
+    let tried = chosen (is_later line) (Err rules.Later) (judged_record town s fault (spelled line)) (Ok item) (err_bad rules.Later item) h in
+    let found = record_ok town s fault (spelled line) item tried.1 in
+    let spells = spelled_viewed line item found.0 tried.0 in
     let passes = judged-passes town s item spells.viewed found.1 in
     record { text = spells.spells.text; unbroken = passes.unbroken; judged = passes.judged }
 

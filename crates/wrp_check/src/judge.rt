@@ -14,7 +14,7 @@ use crate::pool::Pool;
 use crate::tour::broken_tour;
 use std::alloc::{AllocError, Global};
 use wrp_proof::{
-    End, LineFault, PairsOf, Rule, StepsOf, View, ViewFault, is_later_end, read_end, view,
+    End, LineFault, PairsOf, Rule, StepsOf, View, ViewFault, is_later, is_later_end, read_end, view,
 };
 use wrp_town::Town;
 
@@ -49,6 +49,7 @@ impl Judge {
     }
 
     /// Takes the record of a line, or says which rule it breaks.
+    #[tactic(auto, using(wrp_proof::proofs::SpelledLaws::spelled_viewed))]
     pub(crate) fn take(&mut self, town: &Town, line: &[u8]) -> Option<Rule>
         requires ready { IsReady town.now self.old }
         requires short { length line.now ≤ 2 ^ 28 }
@@ -56,12 +57,25 @@ impl Judge {
         ensures judges { (s : Standing) → Stands town.now s self.old
             → Judges town.now s (judged_line town.now s line.now) result self.new }
     {
+        if is_later(line) {
+            return Some(Rule::Later);
+        }
         match view(line) {
             Ok(View::Tour { cost, steps }) => self.take_tour(town, cost, &steps),
             Ok(View::Bound { node, den, mult }) => self.take_bound(town, node, den, &mult),
+            // Only later lines spell other records.
+            Ok(View::Conn { .. }) => unreachable!(),
+            Ok(View::Odd { .. }) => unreachable!(),
+            Ok(View::Round { .. }) => unreachable!(),
+            Ok(View::Kc { .. }) => unreachable!(),
+            Ok(View::Empty { .. }) => unreachable!(),
+            Ok(View::Apart { .. }) => unreachable!(),
+            Ok(View::Point { .. }) => unreachable!(),
+            Ok(View::Blind { .. }) => unreachable!(),
+            Ok(View::Split { .. }) => unreachable!(),
+            Ok(View::Labels { .. }) => unreachable!(),
             Err(ViewFault::Form { .. }) => Some(Rule::Form),
             Err(ViewFault::Number { .. }) => Some(Rule::Number),
-            Err(ViewFault::Later) => Some(Rule::Later),
             Err(ViewFault::Long) => unreachable!(),
         }
     }
