@@ -5,6 +5,8 @@ mod command;
 mod input;
 mod run;
 mod status;
+#[cfg(test)]
+mod tests;
 mod text;
 mod words;
 
