@@ -386,6 +386,28 @@ fn takes_a_table_of_four_mebibytes_at_most(rt: HostRuntime) -> Result<(), Fail> 
     Ok(())
 }
 
+/// The answer to a proof of version 1 whose second line has so many bytes.
+fn answer_to_line(alloc: Global, size: usize) -> Result<Answer, AllocError> {
+    let mut proof = Vec::from_slice(alloc, b"postman-proof 1\n")?;
+    proof.extend_from_slice(&vec![in alloc; b'x'; size]?)?;
+    proof.push(b'\n')?;
+    answer_of(alloc, TRIANGLE, &proof)
+}
+
+#[test]
+fn takes_a_line_of_its_version_at_most(rt: HostRuntime) -> Result<(), Fail> {
+    let answer = answer_to_line(rt.alloc(), 16_777_216)?;
+    assert_eq!(rt; answer.status, refused(2, Rule::Form), "at the limit");
+    let answer = answer_to_line(rt.alloc(), 16_777_217)?;
+    assert_eq!(rt; answer.status, Status::TooLong, "one byte more");
+    assert_eq!(rt;
+        answer.line.as_slice(),
+        b"too long\n".as_slice(),
+        "one byte more"
+    );
+    Ok(())
+}
+
 #[test]
 fn answers_alike_however_reads_end(rt: HostRuntime) -> Result<(), Fail> {
     let alloc = rt.alloc();
@@ -396,6 +418,19 @@ fn answers_alike_however_reads_end(rt: HostRuntime) -> Result<(), Fail> {
         (SLOPE, b"postman-proof 2\nt 5 0+ 0-\nend optimal 5\nx"),
         (LOOP, b"postman-proof 2\nt 7 0+\nb 0 1 1:7"),
         (b"street,from,to\r\n", b""),
+        (
+            ONE_WAY,
+            b"postman-proof 1\nt 9 0+ 1+ 2+ 0+ 3+\nb 0 1 0:1 2:2 3:3 4:6\nend optimal 9\n",
+        ),
+        (
+            STEEP,
+            b"postman-proof 2\nt 10 0- 0+\nb 0 1 0:1 3:10\nend optimal 9\n",
+        ),
+        (DEAR, b"postman-proof 1\nt 1000004 0+ 0-\n"),
+        (
+            SLOPE_BOTH,
+            b"postman-proof 2\nt 5 0+ 0-\nb 0 1 2:2 3:3\nend optimal 5\n\n",
+        ),
     ] {
         let at_once = answer_of(alloc, table, proof)?;
         let slow = answer_over(
