@@ -48,7 +48,7 @@ fn put<O: Sink>(out: &mut O, line: &[u8], status: Status) -> Status
 }
 
 /// Writes the line of a status, or that there is no memory for it.
-fn tell<O: Sink>(alloc: Global, out: &mut O, status: Status) -> Status
+pub(crate) fn tell<O: Sink>(alloc: Global, out: &mut O, status: Status) -> Status
     ensures told { Told status result (O.written out.old) (O.written out.new) (O.faults out.old) (O.faults out.new) (O.empties out.old) (O.empties out.new)
         ⊎ Told answers.Memory result (O.written out.old) (O.written out.new) (O.faults out.old) (O.faults out.new) (O.empties out.old) (O.empties out.new) }
 {
