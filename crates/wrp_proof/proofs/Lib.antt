@@ -13,3 +13,5 @@ pub mod LineLaws
 pub mod Narrow
 pub mod EndLaws
 pub mod SpelledLaws
+pub mod Spread
+pub mod RoundTrips

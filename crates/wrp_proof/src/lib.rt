@@ -26,4 +26,4 @@ pub use reading::{is_later, view};
 pub use record::{End, Record};
 pub use rule::Rule;
 pub use views::{View, ViewFault};
-pub use writing::write_end;
+pub use writing::{write_end, write_record};
