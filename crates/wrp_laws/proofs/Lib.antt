@@ -5,3 +5,6 @@ pub mod PlainBounds
 pub mod PlainLists
 pub mod PlainEnds
 pub mod Example
+pub mod WorkedTowns
+pub mod WorkedLists
+pub mod WorkedRefusals
