@@ -8,3 +8,5 @@ pub mod Example
 pub mod WorkedTowns
 pub mod WorkedLists
 pub mod WorkedRefusals
+pub mod WorkedLines
+pub mod WorkedLimits
