@@ -165,3 +165,23 @@ costly_street_is_not_small = refl
 -- no end agrees that no record reaches
 pub no_record_is_not_optimal : agrees (standing windy_street []) (Optimal 5) ≡ false
 no_record_is_not_optimal = refl
+
+-- a tour alone leaves the search unfinished, from 0 to its cost
+pub tour_alone_is_unfinished : IsAccepted windy_street (there_and_back 5 ∷ []) (Unfinished 0 5)
+tour_alone_is_unfinished = (refl, refl)
+
+-- and no other end agrees with it
+pub tour_alone_proves_no_more :
+    (agrees (standing windy_street (there_and_back 5 ∷ [])) (Optimal 5) ≡ false)
+    × (agrees (standing windy_street (there_and_back 5 ∷ [])) Infeasible ≡ false)
+    × (agrees (standing windy_street (there_and_back 5 ∷ [])) (Unfinished 1 5) ≡ false)
+    × (agrees (standing windy_street (there_and_back 5 ∷ [])) (Unfinished 0 6) ≡ false)
+tour_alone_proves_no_more = (refl, refl, refl, refl)
+
+-- a proved optimum is no unfinished end, and no other cost
+pub optimum_is_the_one_end :
+    (agrees (standing windy_street odd_list) (Unfinished 5 5) ≡ false)
+    × (agrees (standing windy_street odd_list) (Optimal 4) ≡ false)
+    × (agrees (standing windy_street odd_list) (Optimal 6) ≡ false)
+    × (agrees (standing windy_street odd_list) Infeasible ≡ false)
+optimum_is_the_one_end = (refl, refl, refl, refl)
