@@ -10,3 +10,4 @@ pub mod WorkedLists
 pub mod WorkedRefusals
 pub mod WorkedLines
 pub mod WorkedLimits
+pub mod WorkedClasses

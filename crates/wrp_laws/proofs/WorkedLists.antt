@@ -9,7 +9,7 @@ use Rattle.wrp_sums.specs.Duality.{dual_value}
 use Rattle.wrp_proof.specs.Rows.{row_at, kc_row}
 use Rattle.wrp_proof.specs.Nodes.{standing, lower, program, root}
 use Rattle.wrp_proof.specs.Lists.{agrees}
-use Rattle.wrp_laws.proofs.WorkedTowns.{IsAccepted, forth, back, no_street, round_trip, windy_street, one_way_street, closed_street, two_parts, shared_arc, loop_street, parallel_streets, both_ways, one_direction, wrong_direction, dear_return, costly_street, chained_parts}
+use Rattle.wrp_laws.proofs.WorkedTowns.{IsAccepted, forth, back, no_street, round_trip, windy_street, one_way_street, closed_street, two_parts, shared_arc, loop_street, parallel_streets, both_ways, one_direction, wrong_direction, dear_return, costly_street, chained_parts, grid}
 
 -- the one tour of a single street, there and back
 abbrev pub there_and_back : ℕ → Record
@@ -185,3 +185,20 @@ pub optimum_is_the_one_end :
     × (agrees (standing windy_street odd_list) (Optimal 6) ≡ false)
     × (agrees (standing windy_street odd_list) Infeasible ≡ false)
 optimum_is_the_one_end = (refl, refl, refl, refl)
+
+-- a tour of the grid drives the two streets at each of two corners twice
+abbrev pub grid_tour : Record
+grid_tour =
+    Tour 16
+    (forth 1 ∷ forth 6 ∷ forth 10 ∷ forth 11 ∷ back 9 ∷ forth 9 ∷ back 11 ∷ back 8 ∷ forth 7 ∷ back 4 ∷ back 2 ∷ back 0 ∷ forth 1 ∷ forth 5 ∷ back 3 ∷ back 0 ∷ [])
+
+-- a cut for the middle of each side, where three streets meet
+abbrev pub grid_list : List Record
+grid_list = grid_tour ∷ Odd (1 ∷ []) ∷ Odd (2 ∷ []) ∷ Odd (5 ∷ []) ∷ Odd (7 ∷ []) ∷ Bound 0 1 ((21, 1) ∷ (22, 1) ∷ (23, 1) ∷ (24, 1) ∷ []) ∷ []
+
+pub side_cuts_bound_the_grid : IsAccepted grid grid_list (Optimal 16)
+side_cuts_bound_the_grid = (refl, refl)
+
+-- each of these cuts is crossed four times
+pub side_cuts_have_side_4 : map (λ i. (row_at (standing grid grid_list).rows i).side) (21 ∷ 22 ∷ 23 ∷ 24 ∷ []) ≡ pos 4 ∷ pos 4 ∷ pos 4 ∷ pos 4 ∷ []
+side_cuts_have_side_4 = refl

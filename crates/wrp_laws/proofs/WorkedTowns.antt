@@ -1,6 +1,6 @@
 -- Small towns on which the rules of records are worked out, and what it is to accept a list or to refuse a record.
 use Rattle.std.specs.Prelude.{codes}
-use Rattle.std.proofs.Common.{◌≡◌, ℕ, true, false, List, [], ◌∷◌, Option, None, Some, refl, arith}
+use Rattle.std.proofs.Common.{◌≡◌, ℕ, true, false, List, [], ◌∷◌, ◌++◌, Option, None, Some, refl, arith}
 use Rattle.std.specs.Str.{is_utf8, chars}
 use lib.Utf8.{encode}
 use Rattle.wrp_town.specs.declared.street.Need.{Need}
@@ -364,3 +364,37 @@ chained_parts_is_town = record {
 
 abbrev pub chained_parts : Town
 chained_parts = record { junctions = four_names; streets = chained_parts_roads; well_formed = chained_parts_is_town }
+
+abbrev pub nine_names : List (List ℕ)
+nine_names = four_names ++ codes "E" ∷ codes "F" ∷ codes "G" ∷ codes "H" ∷ codes "I" ∷ []
+
+-- the streets of a grid of three by three junctions, each east of its junction before that south of it
+abbrev pub grid_roads : List Street
+grid_roads =
+    road (codes "s0") 0 1 (Some 1) (Some 1) Either ∷
+    road (codes "s1") 0 2 (Some 1) (Some 1) Either ∷
+    road (codes "s2") 1 3 (Some 1) (Some 1) Either ∷
+    road (codes "s3") 1 4 (Some 1) (Some 1) Either ∷
+    road (codes "s4") 3 5 (Some 1) (Some 1) Either ∷
+    road (codes "s5") 2 4 (Some 1) (Some 1) Either ∷
+    road (codes "s6") 2 6 (Some 1) (Some 1) Either ∷
+    road (codes "s7") 4 5 (Some 1) (Some 1) Either ∷
+    road (codes "s8") 4 7 (Some 1) (Some 1) Either ∷
+    road (codes "s9") 5 8 (Some 1) (Some 1) Either ∷
+    road (codes "s10") 6 7 (Some 1) (Some 1) Either ∷
+    road (codes "s11") 7 8 (Some 1) (Some 1) Either ∷ []
+
+pub grid_is_town : IsTown nine_names grid_roads
+unfolding is_utf8 chars encode
+grid_is_town = record {
+  few_junctions = omega arith;
+  few_streets = omega arith;
+  few_demands = omega arith;
+  named = refl;
+  different = refl;
+  sound = refl;
+  in_order = refl;
+}
+
+abbrev pub grid : Town
+grid = record { junctions = nine_names; streets = grid_roads; well_formed = grid_is_town }
