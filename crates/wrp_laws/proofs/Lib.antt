@@ -11,3 +11,4 @@ pub mod WorkedRefusals
 pub mod WorkedLines
 pub mod WorkedLimits
 pub mod WorkedClasses
+pub mod WorkedOrder
