@@ -15,3 +15,5 @@ pub mod EndLaws
 pub mod SpelledLaws
 pub mod Spread
 pub mod RoundTrips
+pub mod Counts
+pub mod Climbs

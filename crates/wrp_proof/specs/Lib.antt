@@ -4,6 +4,7 @@ pub mod Nodes
 pub mod Rules
 pub mod Lists
 pub mod Lines
+pub mod Limits
 pub mod Proofs
 pub mod Judged
 pub mod Parts

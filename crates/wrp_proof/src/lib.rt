@@ -5,6 +5,8 @@
 mod end;
 mod fault;
 mod labels;
+mod lengths;
+mod limits;
 mod numbers;
 mod owned;
 mod parts;
@@ -19,6 +21,7 @@ mod writing;
 
 pub use end::{is_later_end, read_end};
 pub use fault::LineFault;
+pub use limits::writable;
 pub use numbers::NumbersOf;
 pub use owned::{read_record, to_record};
 pub use parts::{PairsOf, StepsOf};
