@@ -17,3 +17,4 @@ pub mod Spread
 pub mod RoundTrips
 pub mod Counts
 pub mod Climbs
+pub mod Joins

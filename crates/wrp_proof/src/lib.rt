@@ -17,6 +17,7 @@ mod record;
 mod rule;
 mod text;
 mod views;
+mod whole;
 mod writing;
 
 pub use end::{is_later_end, read_end};
@@ -29,4 +30,5 @@ pub use reading::{is_later, view};
 pub use record::{End, Record};
 pub use rule::Rule;
 pub use views::{View, ViewFault};
+pub use whole::proof_text;
 pub use writing::{write_end, write_record};
