@@ -1,5 +1,5 @@
 -- The lengths of texts with a space before each, and of numbers.
-use Rattle.std.proofs.Common.{◌≡◌, ℕ, ◌+◌, ◌%◌, ◌/◌, ◌<◌, ◌≤◌, ◌^◌, List, [], ◌∷◌, ◌++◌, map, length, get_or, drop, sym, ap, ◌∙◌, arith, length-append, drop-cons, add-one}
+use Rattle.std.proofs.Common.{◌≡◌, ℕ, ◌+◌, ◌%◌, ◌/◌, ◌<◌, ◌≤◌, ◌^◌, List, [], ◌∷◌, map, length, get_or, drop, ap, ◌∙◌, arith, length-append, drop-cons, add-one}
 use Rattle.std.proofs.lemmas.Fmt.{decimal_step_wide, length-decimal-le_wide}
 use Rattle.std.specs.Fmt.{decimal}
 use Rattle.wrp_proof.proofs.Spacing.{spread}

@@ -1,4 +1,4 @@
-use Rattle.std.proofs.Common.{◌≡◌, ◌-◌, ◌≤◌, ◌^◌, map, drop}
+use Rattle.std.proofs.Common.{◌≡◌, ◌-◌, ◌^◌, map, drop}
 use Rattle.wrp_proof.specs.Rules.{is_ascending}
 use Rattle.wrp_proof.proofs.Climbs.{climbs}
 use Rattle.wrp_proof.proofs.limits.is_set.Given as goal

@@ -1,4 +1,4 @@
-use Rattle.std.proofs.Common.{rules, ◌≡◌, ◌<◌, ◌++◌, ◌∷◌, [], refl, ap, ◌∙◌, length, get_or, append_assoc}
+use Rattle.std.proofs.Common.{rules, ◌≡◌, ◌<◌, ◌++◌, ◌∷◌, [], ap, ◌∙◌, length, get_or, append_assoc}
 use Rattle.wrp_proof.specs.Lines.{line_of}
 use Rattle.wrp_proof.specs.Proofs.{ended}
 use Rattle.wrp_proof.proofs.Joins.{one-joined}
