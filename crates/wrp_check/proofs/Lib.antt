@@ -13,3 +13,4 @@ pub mod Soundness
 pub mod Completeness
 pub mod Passing
 pub mod Bounding
+pub mod Drawing

@@ -1,8 +1,8 @@
 -- A proof as it is read from a source: line by line, with some bytes of the next lines read ahead.
-use Rattle.std.specs.Prelude.{ℕ, ◌+◌, ◌<◌, ◌≤◌, ◌^◌, ◌⊎◌, min, Bool, not, ◌==◌, List, [], ◌∷◌, ◌++◌, length, Option}
+use Rattle.std.specs.Prelude.{◌≡◌, ℕ, ◌+◌, ◌-◌, ◌<◌, ◌≤◌, ◌^◌, ◌⊎◌, min, Bool, not, ◌==◌, List, [], ◌∷◌, ◌++◌, length, Option}
 use Rattle.std.specs.Option.{option_map}
 use Rattle.std.specs.List.{list_all, prefix_len}
-use Rattle.wrp_out.specs.Told.{Tells}
+use Rattle.wrp_out.specs.Told.{Tells, Took}
 use Rattle.wrp_check.specs.declared.lines.Ending.{Ending}
 use Rattle.wrp_check.specs.declared.lines.Ending.TheVariants.{Feed, Input}
 
@@ -12,16 +12,33 @@ pub record Reading : Type 0 where
   pub line : List ℕ
   pub taken : ℕ
 
--- the pending bytes stand in the chunk, which has room for a byte, and no more bytes were taken than a proof may have
+-- the pending bytes stand in the chunk, which has room for a byte; no more bytes were taken than a proof may have, and
+-- with the pending ones at most one more
 pub record IsWithin (at end size taken : ℕ) : Type 0 where
   pub in_order : at ≤ end
   pub inside : end ≤ size
   pub room : 0 < size
   pub most : taken ≤ 2 ^ 40
+  pub asked : taken + (end - at) ≤ 2 ^ 40 + 1
 
 -- the greatest number of bytes of a proof
 abbrev pub most_bytes : ℕ
 most_bytes = 2 ^ 40
+
+-- at most so many bytes were taken from a source
+abbrev pub TookAtMost : ℕ → Option (List ℕ) → Option (List ℕ) → Type 0
+TookAtMost most old new = (piece : List ℕ) × Took old new piece × (length piece ≤ most)
+
+-- how many bytes the reader has had from its source: those handed out and those read ahead
+abbrev pub drawn : Reading → ℕ
+drawn reading = reading.taken + length reading.pending
+
+-- the reader drew these bytes from the source, and in all at most one more than a proof may have
+pub record Draws (told_old told_new : Option (List ℕ)) (old new : Reading) : Type 0 where
+  pub piece : List ℕ
+  pub took : Took told_old told_new piece
+  pub counted : drawn new ≡ drawn old + length piece
+  pub most : drawn new ≤ most_bytes + 1
 
 -- what is left to hand out: the bytes read ahead and then those of the source, where it tells them
 abbrev pub left_in : Option (List ℕ) → Reading → Option (List ℕ)

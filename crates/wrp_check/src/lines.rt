@@ -2,7 +2,7 @@
 ghost use Rattle.std.specs.Prelude.{◌≡◌, ◌≢◌, ◌+◌, ◌-◌, ◌<◌, ◌≤◌, ◌^◌, ◌⊎◌, ◌↔◌, List, [], ◌++◌, length, take, drop, min, position, ◌==◌, true, not, IsTrue, IfOk, IfSome, OnOk, OnErr, IsErrOf, nat_lt};
 ghost use Rattle.wrp_out.specs.Counts.{NeverFalls, Rose};
 ghost use Rattle.wrp_out.specs.Told.{Tells, Took};
-ghost use Rattle.wrp_check.specs.Streams.{EndsAsSaid, PassesLimit, ending_bytes, is_one_line, left_in, line_len, most_bytes};
+ghost use Rattle.wrp_check.specs.Streams.{Draws, EndsAsSaid, PassesLimit, drawn, ending_bytes, is_one_line, left_in, line_len, most_bytes};
 ghost use Rattle.wrp_check.specs.declared.lines.LineFault.TheVariants.{TooLong, Read, Memory};
 
 use std::alloc::{AllocError, Global};
@@ -119,6 +119,9 @@ impl Lines {
             (λ bytes. PassesLimit limit self.old.taken bytes) }
         ensures passes { OnOk result (IfSome (left_in (P.left source.old) self.old)
             (λ bytes. ¬ PassesLimit limit self.old.taken bytes)) }
+
+        // What was read, also in vain.
+        ensures draws { Draws (P.left source.old) (P.left source.new) self.old self.new }
         ensures read { IsErrOf result Read → Rose (P.faults source.old) (P.faults source.new) }
         ensures faults { NeverFalls (P.faults source.old) (P.faults source.new) }
     {
@@ -145,6 +148,7 @@ impl Lines {
         // A byte is left, and the input has the greatest number of bytes without it.
         ensures too_long { IsErrOf result TooLong → (self.old.taken ≡ most_bytes)
             × IfSome (left_in (P.left source.old) self.old) (λ bytes. bytes ≢ []) }
+        ensures draws { Draws (P.left source.old) (P.left source.new) self.old self.new }
         ensures read { IsErrOf result Read → Rose (P.faults source.old) (P.faults source.new) }
         ensures memory { IsErrOf result Memory → ⊥ }
         ensures faults { NeverFalls (P.faults source.old) (P.faults source.new) }
@@ -164,6 +168,7 @@ impl Lines {
         ensures most { self.old.taken ≤ most_bytes }
         ensures ready { IfOk result (λ ready. IsTrue ready ↔ (0 < length self.new.pending)) }
         ensures end { IfOk result (λ ready. ¬ IsTrue ready → Tells (left_in (P.left source.new) self.new) []) }
+        ensures draws { Draws (P.left source.old) (P.left source.new) self.old self.new }
         ensures read { OnErr result (Rose (P.faults source.old) (P.faults source.new)) }
         ensures faults { NeverFalls (P.faults source.old) (P.faults source.new) }
     {
@@ -173,14 +178,16 @@ impl Lines {
         self.fill(source)
     }
 
-    /// Reads a chunk in place of the last one. Answers whether a byte came.
+    /// Reads a chunk in place of the last one, of which nothing is pending. Answers whether a byte came.
     fn fill<P: Source>(&mut self, source: &mut P) -> Result<bool, Failed>
+        requires { length self.old.pending ≡ 0 }
         ensures took { OnOk result (Took (P.left source.old) (P.left source.new) self.new.pending) }
         ensures line { OnOk result (self.new.line ≡ self.old.line) }
         ensures taken { OnOk result (self.new.taken ≡ self.old.taken) }
         ensures came { IfOk result (λ came. IsTrue came ↔ (0 < length self.new.pending)) }
         ensures end { IfOk result (λ came. ¬ IsTrue came → Tells (P.left source.old) []) }
         ensures asked { OnOk result (self.old.taken + length self.new.pending ≤ most_bytes + 1) }
+        ensures draws { Draws (P.left source.old) (P.left source.new) self.old self.new }
         ensures read { OnErr result (Rose (P.faults source.old) (P.faults source.new)) }
         ensures faults { NeverFalls (P.faults source.old) (P.faults source.new) }
     {
@@ -205,6 +212,7 @@ impl Lines {
         ensures feed { IfOk result (λ feed. IsTrue feed ↔ (line_len self.old.pending < length self.old.pending)) }
         ensures too_long { IsErrOf result TooLong → (limit < length self.old.line + line_len self.old.pending)
             ⊎ (most_bytes < self.old.taken + min (line_len self.old.pending + 1) (length self.old.pending)) }
+        ensures drawn { drawn self.new ≡ drawn self.old }
         ensures read { IsErrOf result Read → ⊥ }
     {
         let pending = &self.chunk[self.at..self.end];
@@ -231,6 +239,7 @@ fn read_front<P: Source>(source: &mut P, chunk: &mut [u8], room: usize) -> Resul
     ensures fits { IfOk result (λ count. count ≤ room) }
     ensures took { IfOk result (λ count. Took (P.left source.old) (P.left source.new) (take count chunk.new)) }
     ensures end { IfOk result (λ count. count ≡ 0 → Tells (P.left source.old) []) }
+    ensures kept { OnErr result (P.left source.new ≡ P.left source.old) }
     ensures read { OnErr result (Rose (P.faults source.old) (P.faults source.new)) }
     ensures faults { NeverFalls (P.faults source.old) (P.faults source.new) }
 {

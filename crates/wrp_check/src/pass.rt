@@ -7,7 +7,7 @@ ghost use Rattle.wrp_town.specs.declared.town.Town.{Town};
 ghost use Rattle.wrp_proof.specs.Nodes.{Standing};
 ghost use Rattle.wrp_check.specs.declared.lines.LineFault.TheVariants as line_faults;
 ghost use Rattle.wrp_check.specs.declared.pass.CheckFault.TheVariants as faults;
-ghost use Rattle.wrp_check.specs.Streams.{left_in, most_bytes};
+ghost use Rattle.wrp_check.specs.Streams.{left_in, most_bytes, drawn, Draws, TookAtMost};
 ghost use Rattle.wrp_check.specs.Verdicts.{verdict, verdict_on, limit_of, judged_end, is_end as is_end_text, Accepted, FaultIs, AnswerIs};
 ghost use Rattle.wrp_check.specs.Judging.{IsReady, Stands};
 ghost use Rattle.wrp_check.specs.Passes.{TookLine, Unread, Behind, Begins, GoesOn, Closes, Whole};
@@ -86,6 +86,7 @@ fn read_line<P: Source>(
     ensures within { OnOk result (length lines.new.line ≤ limit) }
     ensures unread { IfErr result (λ fault. IfSome (left_in (P.left proof.old) lines.old)
         (λ bytes. Unread fault limit number lines.old.taken bytes)) }
+    ensures draws { Draws (P.left proof.old) (P.left proof.new) lines.old lines.new }
     ensures read { IsErrOf result faults.Read → Rose (P.faults proof.old) (P.faults proof.new) }
     ensures faults { NeverFalls (P.faults proof.old) (P.faults proof.new) }
 {
@@ -127,6 +128,7 @@ fn read_version<P: Source>(town: &Town, lines: &mut Lines, proof: &mut P) -> Res
     ensures most { OnOk result (lines.new.taken ≤ most_bytes) }
     ensures fault { IfErr result (λ fault. IfSome (left_in (P.left proof.old) lines.old)
         (λ bytes. FaultIs fault (verdict town.now bytes))) }
+    ensures draws { Draws (P.left proof.old) (P.left proof.new) lines.old lines.new }
     ensures read { IsErrOf result faults.Read → Rose (P.faults proof.old) (P.faults proof.new) }
     ensures faults { NeverFalls (P.faults proof.old) (P.faults proof.new) }
 {
@@ -156,6 +158,7 @@ fn close<P: Source>(lines: &mut Lines, proof: &mut P, number: u64) -> Result<(),
     ensures same { OnOk result (left_in (P.left proof.new) lines.new ≡ left_in (P.left proof.old) lines.old) }
     ensures behind { IfErr result (λ fault. IfSome (left_in (P.left proof.old) lines.old)
         (λ rest. Behind fault number lines.old.taken rest)) }
+    ensures draws { Draws (P.left proof.old) (P.left proof.new) lines.old lines.new }
     ensures read { IsErrOf result faults.Read → Rose (P.faults proof.old) (P.faults proof.new) }
     ensures faults { NeverFalls (P.faults proof.old) (P.faults proof.new) }
 {
@@ -193,6 +196,7 @@ fn judge_next<P: Source>(
     ensures fault { IfErr result (λ fault. (s : Standing) → Stands town.now s judge.old
         → IfSome (left_in (P.left proof.old) lines.old)
         (λ bytes. FaultIs fault (verdict_on town.now limit s number lines.old.taken bytes))) }
+    ensures draws { Draws (P.left proof.old) (P.left proof.new) lines.old lines.new }
     ensures read { IsErrOf result faults.Read → Rose (P.faults proof.old) (P.faults proof.new) }
     ensures faults { NeverFalls (P.faults proof.old) (P.faults proof.new) }
 {
@@ -226,12 +230,14 @@ fn judge_lines<P: Source>(
     requires limit { limit ≤ 2 ^ 28 }
     requires ready { IsReady town.now judge.old }
     requires most { lines.old.taken ≤ most_bytes }
+    requires drawn { drawn lines.old ≤ most_bytes + 1 }
     ensures closes { IfOk result (λ end. (s : Standing) → Stands town.now s judge.old
         → Closes town.now limit s 2 lines.old.taken (left_in (P.left proof.old) lines.old)
         (left_in (P.left proof.new) lines.new) end) }
     ensures fault { IfErr result (λ fault. (s : Standing) → Stands town.now s judge.old
         → IfSome (left_in (P.left proof.old) lines.old)
         (λ bytes. FaultIs fault (verdict_on town.now limit s 2 lines.old.taken bytes))) }
+    ensures draws { Draws (P.left proof.old) (P.left proof.new) lines.old lines.new }
     ensures read { IsErrOf result faults.Read → Rose (P.faults proof.old) (P.faults proof.new) }
     ensures faults { NeverFalls (P.faults proof.old) (P.faults proof.new) }
 {
@@ -250,6 +256,7 @@ fn judge_proof<P: Source>(alloc: Global, town: &Town, proof: &mut P) -> Result<E
     ensures whole { IfOk result (λ end. Whole town.now (P.left proof.old) end) }
     ensures end { OnOk result (Tells (P.left proof.new) []) }
     ensures fault { IfErr result (λ fault. IfSome (P.left proof.old) (λ bytes. FaultIs fault (verdict town.now bytes))) }
+    ensures taken { TookAtMost (most_bytes + 1) (P.left proof.old) (P.left proof.new) }
     ensures read { IsErrOf result faults.Read → Rose (P.faults proof.old) (P.faults proof.new) }
     ensures faults { NeverFalls (P.faults proof.old) (P.faults proof.new) }
 {
@@ -278,6 +285,9 @@ pub fn check<P: Source>(alloc: Global, town: &Town, proof: &mut P) -> Result<End
 
     // What was accepted is true, whoever wrote the proof.
     ensures holds { IfOk result (λ end. EndHolds town.now end) }
+
+    // It reads at most one byte more than a proof may have, whatever the source holds.
+    ensures taken { TookAtMost (most_bytes + 1) (P.left proof.old) (P.left proof.new) }
     ensures read { IsErrOf result faults.Read → Rose (P.faults proof.old) (P.faults proof.new) }
     ensures faults { NeverFalls (P.faults proof.old) (P.faults proof.new) }
 {

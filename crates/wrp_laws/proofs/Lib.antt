@@ -5,3 +5,10 @@ pub mod PlainBounds
 pub mod PlainLists
 pub mod PlainEnds
 pub mod Example
+pub mod WorkedTowns
+pub mod WorkedLists
+pub mod WorkedRefusals
+pub mod WorkedLines
+pub mod WorkedLimits
+pub mod WorkedClasses
+pub mod WorkedOrder

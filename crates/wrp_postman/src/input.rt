@@ -1,7 +1,8 @@
 //! Reads a whole source into memory, up to a limit.
-ghost use Rattle.std.specs.Prelude.{◌≡◌, ◌≢◌, ◌<◌, ◌≤◌, ◌^◌, [], length, IfOk, IfSome, OnErr, IsErrOf};
+ghost use Rattle.std.specs.Prelude.{◌≡◌, ◌≢◌, ◌+◌, ◌<◌, ◌≤◌, ◌^◌, [], length, IfOk, IfSome, OnErr, IsErrOf};
 ghost use Rattle.wrp_out.specs.Counts.{NeverFalls, Rose};
 ghost use Rattle.wrp_out.specs.Told.{Took, Tells};
+ghost use Rattle.wrp_check.specs.Streams.{TookAtMost};
 ghost use Rattle.wrp_postman.specs.Inputs.{Adds};
 ghost use Rattle.wrp_postman.specs.declared.input.InputFault.TheVariants.{TooLong, Read, Memory};
 
@@ -52,6 +53,7 @@ fn read_piece<S: Source>(
     ensures few { IfOk result (λ count. count ≤ length chunk.old) }
     ensures end { IfOk result (λ count. count ≡ 0 → Tells (S.left source.new) []) }
     ensures memory { result ≢ Err InputFault.TooLong }
+    ensures taken { TookAtMost (length chunk.old) (S.left source.old) (S.left source.new) }
     ensures read { IsErrOf result InputFault.Read → Rose (S.faults source.old) (S.faults source.new) }
     ensures faults { NeverFalls (S.faults source.old) (S.faults source.new) }
 {
@@ -73,6 +75,7 @@ pub(crate) fn read_all<S: Source>(
     ensures end { IfOk result (λ bytes. Tells (S.left source.new) []) }
     ensures short { IfOk result (λ bytes. length bytes.items ≤ limit) }
     ensures too_long { IsErrOf result InputFault.TooLong → IfSome (S.left source.old) (λ bytes. limit < length bytes) }
+    ensures taken { TookAtMost (limit + 1) (S.left source.old) (S.left source.new) }
     ensures read { IsErrOf result InputFault.Read → Rose (S.faults source.old) (S.faults source.new) }
     ensures faults { NeverFalls (S.faults source.old) (S.faults source.new) }
 {

@@ -1,16 +1,19 @@
-//! The program: checks proofs of inspection tours over street tables.
+//! The program: checks proofs of tours over street tables.
 #![tactic(auto)]
 
 mod command;
 mod input;
 mod run;
 mod status;
+#[cfg(test)]
+mod tests;
 mod text;
 mod words;
 
 use command::Names;
-use run::postman;
-use std::alloc::Global;
+use run::{postman, tell};
+use status::Status;
+use std::io::ErrorKind;
 use std::process::ExitCode;
 use std::{env, io};
 use wrp_out::{FileSource, StdoutSink};
@@ -32,13 +35,23 @@ fn files_of<'a>(names: Option<Names<'a>>) -> (&'a str, &'a str) {
     }
 }
 
-fn main(rt: HostRuntime) -> io::Result<ExitCode> {
-    let alloc: Global = rt.alloc();
-    let words = words_of(&rt)?;
-    let (streets, proof) = files_of(words::names(&words));
-    let mut streets = FileSource::new(&rt, streets);
-    let mut proof = FileSource::new(&rt, proof);
-    let mut out = StdoutSink::new(&rt);
-    let status = postman(alloc, &words, &mut streets, &mut proof, &mut out);
-    Ok(ExitCode::from(status.code()))
+/// The status of the command that these words are, over files and standard output.
+fn status_of(rt: &HostRuntime, words: &[String]) -> Status {
+    let (streets, proof) = files_of(words::names(words));
+    let mut streets = FileSource::new(rt, streets);
+    let mut proof = FileSource::new(rt, proof);
+    let mut out = StdoutSink::new(rt);
+    postman(rt.alloc(), words, &mut streets, &mut proof, &mut out)
+}
+
+fn main(rt: HostRuntime) -> ExitCode {
+    let status = match words_of(&rt) {
+        Ok(words) => status_of(&rt, &words),
+        Err(error) if error.kind() == ErrorKind::OutOfMemory => {
+            tell(rt.alloc(), &mut StdoutSink::new(&rt), Status::Memory)
+        }
+        // Words that aren't text are no command.
+        Err(_) => status_of(&rt, &[]),
+    };
+    ExitCode::from(status.code())
 }

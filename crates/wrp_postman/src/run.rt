@@ -1,16 +1,17 @@
 //! The top call: a command over its sources and its output.
-ghost use Rattle.std.specs.Prelude.{◌≡◌, ◌≢◌, ◌≤◌, ◌⊎◌, ◌^◌, ◌++◌, ◌∷◌, [], ℕ, List, None, Some, IfSome, IfOk, length, map};
+ghost use Rattle.std.specs.Prelude.{◌≡◌, ◌≢◌, ◌+◌, ◌≤◌, ◌⊎◌, ◌^◌, ◌++◌, ◌∷◌, [], ℕ, List, None, Some, IfSome, IfOk, length, map};
 ghost use Rattle.std.specs.String.{string_bytes};
 ghost use Rattle.wrp_out.specs.Counts.{NeverFalls, Rose};
 ghost use Rattle.wrp_out.specs.Told.{Gained, GainedPrefix};
 ghost use Rattle.wrp_proof.specs.declared.record.End.{End};
 ghost use Rattle.wrp_proof.specs.Proofs.{IsProof};
 ghost use Rattle.wrp_laws.specs.Ends.{EndHolds};
+ghost use Rattle.wrp_check.specs.Streams.{TookAtMost, most_bytes};
 ghost use Rattle.wrp_check.specs.Verdicts.{verdict};
 ghost use Rattle.wrp_postman.specs.declared.status.Status.{Status};
 ghost use Rattle.wrp_postman.specs.declared.status.Status.TheVariants as answers;
 ghost use Rattle.wrp_postman.specs.Words.{Check, command_of};
-ghost use Rattle.wrp_postman.specs.Runs.{IsAccepted, AnswersVerdict, AnswersCheck, status_line, Told, IsOfCheck, IsWritten};
+ghost use Rattle.wrp_postman.specs.Runs.{table_bytes, IsAccepted, AnswersVerdict, AnswersCheck, status_line, Told, IsOfCheck, IsWritten};
 ghost use Rattle.wrp_postman.specs.declared.input.InputFault.TheVariants as inputs;
 
 use crate::command::Names;
@@ -47,7 +48,7 @@ fn put<O: Sink>(out: &mut O, line: &[u8], status: Status) -> Status
 }
 
 /// Writes the line of a status, or that there is no memory for it.
-fn tell<O: Sink>(alloc: Global, out: &mut O, status: Status) -> Status
+pub(crate) fn tell<O: Sink>(alloc: Global, out: &mut O, status: Status) -> Status
     ensures told { Told status result (O.written out.old) (O.written out.new) (O.faults out.old) (O.faults out.new) (O.empties out.old) (O.empties out.new)
         ⊎ Told answers.Memory result (O.written out.old) (O.written out.new) (O.faults out.old) (O.faults out.new) (O.empties out.old) (O.empties out.new) }
 {
@@ -63,6 +64,7 @@ fn check_proof<P: Source>(alloc: Global, town: &Town, proof: &mut P) -> Status
     ensures accepted { (end : End) → result ≡ answers.Accepted end
         → IfSome (P.left proof.old) (λ bytes. IsProof town.now end bytes) }
     ensures holds { (end : End) → result ≡ answers.Accepted end → EndHolds town.now end }
+    ensures proof_taken { TookAtMost (most_bytes + 1) (P.left proof.old) (P.left proof.new) }
     ensures read { result ≡ answers.ReadFault → Rose (P.faults proof.old) (P.faults proof.new) }
     ensures kind { IsOfCheck result }
 {
@@ -93,6 +95,8 @@ fn check_files<S: Source, P: Source>(alloc: Global, streets: &mut S, proof: &mut
     ensures answers { AnswersCheck (S.left streets.old) (P.left proof.old) result }
     ensures accepted { (end : End) → result ≡ answers.Accepted end
         → IsAccepted (S.left streets.old) (P.left proof.old) end }
+    ensures table_taken { TookAtMost (table_bytes + 1) (S.left streets.old) (S.left streets.new) }
+    ensures proof_taken { TookAtMost (most_bytes + 1) (P.left proof.old) (P.left proof.new) }
     ensures read { result ≡ answers.ReadFault → Rose (S.faults streets.old) (S.faults streets.new)
         ⊎ Rose (P.faults proof.old) (P.faults proof.new) }
     ensures kind { IsOfCheck result }
@@ -136,6 +140,10 @@ pub fn postman<S: Source, P: Source, O: Sink>(
         ⊎ Rose (P.faults proof_in.old) (P.faults proof_in.new) }
     ensures write { result ≡ answers.WriteFault → Rose (O.faults out.old) (O.faults out.new)
         ⊎ Rose (O.empties out.old) (O.empties out.new) }
+
+    // At most one byte more is read than a table and a proof may have, whatever the sources hold and the answer is.
+    ensures table_taken { TookAtMost (table_bytes + 1) (S.left streets.old) (S.left streets.new) }
+    ensures proof_taken { TookAtMost (most_bytes + 1) (P.left proof_in.old) (P.left proof_in.new) }
 
     // The line of the status was written, or a part of it where a write failed or took nothing.
     ensures line { IsWritten result (O.written out.old) (O.written out.new)

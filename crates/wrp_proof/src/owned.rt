@@ -165,8 +165,12 @@ mod tests {
 
     #[test]
     fn records_are_read(rt: HostRuntime) -> Result<(), Fail> {
-        match read_record(rt.alloc(), b"n 0 1 / 7") {
-            Ok(Record::Labels { labels, streets }) => {
+        let item = match read_record(rt.alloc(), b"n 0 1 / 7") {
+            Ok(item) => Some(item),
+            Err(_fault) => None,
+        };
+        match &item {
+            Some(Record::Labels { labels, streets }) => {
                 assert_eq!(rt; labels.as_slice(), [0, 1].as_slice());
                 assert_eq!(rt; streets.as_slice(), [7].as_slice());
             }

@@ -1,4 +1,4 @@
-/// A rule that a line of a proof breaks, in the order in which they are tried.
+/// A rule that a line of a proof breaks.
 #[derive(Clone, Copy, Debug, PartialEq, Eq)]
 pub enum Rule {
     /// The first line is no version line, or one of version 1 though the town isn't small.

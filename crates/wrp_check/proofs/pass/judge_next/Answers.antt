@@ -1,5 +1,6 @@
 use Rattle.std.proofs.Common.{sym, ◌∙◌}
 use Rattle.wrp_check.proofs.Passing.{unread_told_on, end_refuses, line_refuses, closes, end_followed, goes}
+use Rattle.wrp_check.proofs.Drawing.{draws_then}
 use Rattle.wrp_check.proofs.pass.judge_next.Goals as goal
 
 pub returns-in-Err-clause-fault : goal.returns-in-Err-clause-fault
@@ -36,3 +37,9 @@ returns-in-None-clause-goes_on g c = λ same s stands.
     let is = sym (rw c.line.ensures at c.is_end.ensures) ∙ c.if-is_end.false in
     let judged = rw c.line-2.ensures at (c.in-None.ensures.judges s stands) in
     goes c.args.town.now c.args.limit s c.args.number c.args.lines.now.taken _ _ c.read_line.new.lines.line c.in_default.ensures.took _ c.take.new.self is judged c.in_default.ensures.taken
+
+pub returns-in-Ok-close-clause-draws : goal.returns-in-Ok-close-clause-draws
+returns-in-Ok-close-clause-draws g c = draws_then _ _ _ _ _ _ c.read_line.ensures.draws c.close.ensures.draws
+
+pub returns-in-Err-close-clause-draws : goal.returns-in-Err-close-clause-draws
+returns-in-Err-close-clause-draws g c = draws_then _ _ _ _ _ _ c.read_line.ensures.draws c.close.ensures.draws

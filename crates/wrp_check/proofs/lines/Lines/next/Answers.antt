@@ -5,6 +5,7 @@ use Rattle.wrp_out.proofs.CountFacts.{never_falls_then}
 use Rattle.wrp_check.specs.Streams.{left_in, line_len}
 use Rattle.wrp_check.specs.declared.lines.LineFault.TheVariants.{TooLong}
 use Rattle.wrp_check.proofs.Readings.{keeps_limit_fed, keeps_limit_whole, one_line_more, has_no_feed, length_more, not_true, line_len-le-length, passes_limit, same_fault, took_fed, took_whole}
+use Rattle.wrp_check.proofs.Drawing.{draws_then, draws_kept}
 use Rattle.wrp_check.proofs.lines.Lines.next.Goals as goal
 
 pub returns-in_err-take_piece-clause-too_long : goal.returns-in_err-take_piece-clause-too_long
@@ -47,6 +48,7 @@ loop-self-preserved g c =
       took = took_whole _ (g.P.Source.left c.is_ready.new.source) c.is_ready.new.self c.take_piece.new.self (rw (ready.line, ← ready.same) kept.took) piece.line piece.pending unfed;
       one_line = rw piece.line (one_line_more c.is_ready.new.self.line c.is_ready.new.self.pending (rw ready.line kept.one_line));
       within = piece.within;
+      draws = draws_kept _ _ _ c.is_ready.new.self _ (draws_then _ _ _ _ _ _ kept.draws c.is_ready.ensures.draws) piece.drawn;
       taken = omega (arith, longer, unfed, line_len-le-length c.is_ready.new.self.pending, ap length ready.line, ready.taken, piece.taken, kept.taken);
       faults = never_falls_then _ _ _ kept.faults ready.faults;
     }
@@ -58,3 +60,17 @@ returns-clause-passes g c =
     keeps_limit_whole _ (left_in (g.P.Source.left c.is_ready.new.source) c.is_ready.new.self) c.is_ready.new.self.line c.args.limit c.args.self.now.taken
     (rw (ready.line, ← ready.same) kept.took) (ready.end (not_true c.in_ok-is_ready.field-0 c.if-branch.false)) (rw ready.line kept.one_line) (rw ready.line kept.within)
     (omega (arith, ap length ready.line, ready.most, kept.taken))
+
+pub returns-in_err-is_ready-clause-draws : goal.returns-in_err-is_ready-clause-draws
+returns-in_err-is_ready-clause-draws g c = draws_then _ _ _ _ _ _ c.loop-self.invariant.draws c.is_ready.ensures.draws
+
+pub returns-in_err-take_piece-clause-draws : goal.returns-in_err-take_piece-clause-draws
+returns-in_err-take_piece-clause-draws g c =
+    draws_kept _ _ _ c.is_ready.new.self _ (draws_then _ _ _ _ _ _ c.loop-self.invariant.draws c.is_ready.ensures.draws) c.take_piece.ensures.drawn
+
+pub returns-then-branch-2-clause-draws : goal.returns-then-branch-2-clause-draws
+returns-then-branch-2-clause-draws g c =
+    draws_kept _ _ _ c.is_ready.new.self _ (draws_then _ _ _ _ _ _ c.loop-self.invariant.draws c.is_ready.ensures.draws) c.take_piece.ensures.drawn
+
+pub returns-clause-draws : goal.returns-clause-draws
+returns-clause-draws g c = draws_then _ _ _ _ _ _ c.loop-self.invariant.draws c.is_ready.ensures.draws
