@@ -8,6 +8,7 @@ pub mod Proofs
 pub mod Judged
 pub mod Parts
 pub mod Shapes
+pub mod Fronts
 pub mod Spelling
 pub mod Views
 pub mod Ends
