@@ -13,6 +13,8 @@ pub mod PartFronts
 pub mod LeftFronts
 pub mod PartPlaces
 pub mod LineFronts
+pub mod TwoNumbers
+pub mod EndFronts
 pub mod Records
 pub mod LineLaws
 pub mod Narrow

@@ -7,10 +7,10 @@ use Rattle.std.specs.List.{prefix_len}
 use Rattle.wrp_proof.specs.Parts.{is_sign, is_colon}
 use Rattle.wrp_proof.proofs.PartFronts.{digits_front, step_end_front, step_front, pair_end_front, pair_front}
 
-front-more : (b : ℕ) (t : List ℕ) → is_ascii_digit b ≡ true → digits_front (b ∷ t) ≡ suc (digits_front t)
+pub front-more : (b : ℕ) (t : List ℕ) → is_ascii_digit b ≡ true → digits_front (b ∷ t) ≡ suc (digits_front t)
 front-more b t here = ap (λ d. cond d (1 + digits_front t) 0) here ∙ omega arith
 
-front-none : (b : ℕ) (t : List ℕ) → is_ascii_digit b ≡ false → digits_front (b ∷ t) ≡ 0
+pub front-none : (b : ℕ) (t : List ℕ) → is_ascii_digit b ≡ false → digits_front (b ∷ t) ≡ 0
 front-none b t other = ap (λ d. cond d (1 + digits_front t) 0) other
 
 -- as many digits as are counted

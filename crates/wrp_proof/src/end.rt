@@ -1,10 +1,11 @@
 //! Reads end lines. This takes no memory.
-ghost use Rattle.std.specs.Prelude.{codes, ◌≡◌, ◌∷◌, ◌^◌, ◌<◌, ◌≤◌, length, is_some, IfOk, IfErr, Some, None, if◌then◌else◌};
+ghost use Rattle.std.specs.Prelude.{codes, ℕ, slice_index, ◌≡◌, ◌∷◌, ◌^◌, ◌<◌, ◌≤◌, length, is_some, IfOk, IfErr, Some, None, if◌then◌else◌};
 ghost use Rattle.std.specs.List.{slice_split};
 ghost use Rattle.std.specs.Str.{bytes_eq};
 ghost use Rattle.wrp_proof.specs.declared.record.End.{End};
 ghost use Rattle.wrp_proof.specs.Parts.{parts_of, is_space};
-ghost use Rattle.wrp_proof.specs.Ends.{optimal_in, infeasible_in, unfinished_in, end_of_word, end_in, are_numbers, has_end_shape, spelled_end, is_later_end as is_later_line, IsEndLineOf, IsEndFault};
+ghost use Rattle.wrp_proof.specs.Fronts.{IsLongestFront};
+ghost use Rattle.wrp_proof.specs.Ends.{are_two, optimal_in, infeasible_in, unfinished_in, end_of_word, end_in, are_numbers, has_end_shape, spelled_end, is_later_end as is_later_line, IsEndLineOf, IsEndFault};
 
 use crate::fault::LineFault;
 use crate::place::digits_before;
@@ -164,7 +165,8 @@ fn is_shape_of_word(word: &[u8], left: &[u8]) -> bool
 
 /// The place at which a line breaks the shapes of end lines.
 fn form_place(line: &[u8]) -> usize
-    ensures { result ≤ length line.now }
+    ensures within { result ≤ length line.now }
+    ensures front { IsLongestFront has_end_shape line.now result }
 {
     let optimal = shared(line, b"end optimal ");
     if optimal == 12 {
@@ -179,7 +181,8 @@ fn form_place(line: &[u8]) -> usize
 
 /// The number of bytes with which a text begins as two numbers with a space between them do.
 fn two_numbers(text: &[u8]) -> usize
-    ensures { result ≤ length text.now }
+    ensures within { result ≤ length text.now }
+    ensures front { IsLongestFront are_two text.now result }
 {
     let low = digits_before(text);
     if low > 0 && low < text.len() && text[low] == b' ' {
@@ -212,6 +215,8 @@ fn number_place(line: &[u8]) -> usize
 fn shared(line: &[u8], text: &[u8]) -> usize
     ensures line { result ≤ length line.now }
     ensures text { result ≤ length text.now }
+    ensures same { (k : ℕ) → k < result → slice_index line.now k ≡ slice_index text.now k }
+    ensures longest { result < length text.now → result < length line.now → slice_index line.now result ≡ slice_index text.now result → ⊥ }
 {
     for (place, byte) in text.iter().enumerate() {
         if place >= line.len() || line[place] != *byte {
