@@ -59,7 +59,7 @@ short-front (w ∷ word) shape some (b ∷ text) h lt = elim (cases_Bool (b == w
 long-front : (word : List ℕ) (shape : List ℕ → Bool) (text : List ℕ) (at : ℕ) → IsLongestFront shape text at → IsLongestFront (behind word shape) (word ++ text) (length word + at)
 long-front word shape text at h = front-append (behind word shape) word text at (front-same shape (λ t. behind word shape (word ++ t)) text at (λ t. sym (behind-word word shape t)) h)
 
-full : (word text : List ℕ) → shared_front word text ≡ length word → text ≡ word ++ drop (length word) text
+pub full : (word text : List ℕ) → shared_front word text ≡ length word → text ≡ word ++ drop (length word) text
 full [] text e = refl
 full (w ∷ word) [] e = absurd (omega arith)
 full (w ∷ word) (b ∷ text) e = elim (cases_Bool (b == w)) [
@@ -162,7 +162,7 @@ behind-text (w ∷ word) shape (b ∷ text) h =
     let more = behind-text word shape text both.1 in
     record { rest = more.rest; same = ap (λ c. c ∷ text) (eqb-true b w both.0) ∙ ap (λ x. w ∷ x) more.same; whole = more.whole }
 
-alone : (one : List ℕ) → is_digits one ≡ true → slice_split is_space one ≡ one ∷ []
+pub alone : (one : List ℕ) → is_digits one ≡ true → slice_split is_space one ≡ one ∷ []
 alone one h = ap (slice_split is_space) (sym (append-nil one)) ∙ solid_cut one [] (digits-solid one (digits-one one h)) refl
 
 optimal-shape : (t : List ℕ) → is_optimal t ≡ true → has_end_shape t ≡ true
@@ -189,7 +189,7 @@ infeasible-shape t h =
     last [] h = refl
     last (b ∷ r) h = absurd (false≢true h)
 
-end-same : (t : List ℕ) → is_end t ≡ has_end_shape t
+pub end-same : (t : List ℕ) → is_end t ≡ has_end_shape t
 end-same t = same (is_end t) (has_end_shape t) (λ h. three (is_optimal t) (is_unfinished t) (is_infeasible t) (optimal-shape t) (unfinished-shape t) (infeasible-shape t) h) (λ h. shape-end (slice_split is_space t) t h (sym (spread-split t)))
   where
     same : (a b : Bool) → (a ≡ true → b ≡ true) → (b ≡ true → a ≡ true) → a ≡ b

@@ -15,6 +15,7 @@ pub mod PartPlaces
 pub mod LineFronts
 pub mod TwoNumbers
 pub mod EndFronts
+pub mod EndNumbers
 pub mod Records
 pub mod LineLaws
 pub mod Narrow

@@ -6,6 +6,7 @@ use Rattle.wrp_proof.specs.declared.record.End.{End}
 use Rattle.wrp_proof.specs.declared.record.End.TheVariants.{Optimal, Infeasible, Unfinished}
 use Rattle.wrp_proof.specs.declared.fault.LineFault.{LineFault}
 use Rattle.wrp_proof.specs.declared.fault.LineFault.TheVariants as faults
+use Rattle.wrp_proof.specs.EndFaults.{IsFirstBadCost}
 use Rattle.wrp_proof.specs.Fronts.{IsLongestFront}
 use Rattle.wrp_proof.specs.Lines.{end_line}
 use Rattle.wrp_proof.specs.Parts.{is_space, is_digits, number_of, is_count_part}
@@ -79,10 +80,11 @@ begins_with_end is_shape (first ∷ others) = bytes_eq first (codes "end") && is
 abbrev pub has_end_shape : List ℕ → Bool
 has_end_shape line = begins_with_end has_word_shape (slice_split is_space line)
 
--- the fault of an end line: Form where it isn't in a shape, at the end of its longest front, else Number
+-- the fault of an end line: Form where it isn't in a shape, at the end of its longest front, else
+-- Number, at the first number out of range
 abbrev pub IsEndFault : List ℕ → LineFault → Type 0
 IsEndFault line (faults.Form at) = (length line ≤ 2 ^ 28) × (has_end_shape line ≡ false) × (at ≤ length line) × IsLongestFront has_end_shape line at
-IsEndFault line (faults.Number at) = (length line ≤ 2 ^ 28) × (has_end_shape line ≡ true) × (at ≤ length line)
+IsEndFault line (faults.Number at) = (length line ≤ 2 ^ 28) × (has_end_shape line ≡ true) × (at ≤ length line) × IsFirstBadCost line at
 IsEndFault line faults.Long = 2 ^ 28 < length line
 IsEndFault line faults.Memory = ⊥
 

@@ -11,4 +11,5 @@ pub mod Shapes
 pub mod Fronts
 pub mod Spelling
 pub mod Views
+pub mod EndFaults
 pub mod Ends
