@@ -47,7 +47,7 @@ short-front (w ∷ word) shape some (b ∷ text) h lt = elim (cases_Bool (b == w
       let size : shared_front (w ∷ word) (b ∷ text) ≡ suc (shared_front word text) = ap (λ c. cond c (suc (shared_front word text)) 0) same in
       front-at (behind (w ∷ word) shape) (b ∷ text) (suc (shared_front word text)) (shared_front (w ∷ word) (b ∷ text))
       (front-cons (behind (w ∷ word) shape) b text (shared_front word text)
-        (front-same (behind word shape) (λ t. behind (w ∷ word) shape (b ∷ t)) text (shared_front word text) (λ t. sym (ap (λ c. c && behind word shape t) same)) (short-front word shape some text h (omega (arith, size)))))
+      (front-same (behind word shape) (λ t. behind (w ∷ word) shape (b ∷ t)) text (shared_front word text) (λ t. sym (ap (λ c. c && behind word shape t) same)) (short-front word shape some text h (omega (arith, size)))))
       size
   | inr other ↦
       front-at (behind (w ∷ word) shape) (b ∷ text) 0 (shared_front (w ∷ word) (b ∷ text))
@@ -102,6 +102,7 @@ front-or one two text m n place h k e = elim (cases_lt m n) [
     or-true : (a : Bool) → (a || true) ≡ true
     or-true true = refl
     or-true false = refl
+
     either : (a b : Bool) → (a || b) ≡ true → (i at : ℕ) → (a ≡ true → i ≤ at) → (b ≡ true → i ≤ at) → i ≤ at
     either true b e i at f g = f refl
     either false b e i at f g = g e
@@ -197,6 +198,7 @@ end-same t = same (is_end t) (has_end_shape t) (λ h. three (is_optimal t) (is_u
     same true false f g = sym (f refl)
     same false true f g = g refl
     same false false f g = refl
+
     three : (a b c : Bool) → (a ≡ true → has_end_shape t ≡ true) → (b ≡ true → has_end_shape t ≡ true) → (c ≡ true → has_end_shape t ≡ true) → (a || (b || c)) ≡ true → has_end_shape t ≡ true
     three true b c f g k h = f refl
     three false true c f g k h = g refl

@@ -117,6 +117,7 @@ no-number line shape none o u = three (is_optimal line) (is_unfinished line) (is
     three true b c h f g k = f refl
     three false true c h f g k = g refl
     three false false c h f g k = k h
+
     last : (rest : List ℕ) → line ≡ codes "end infeasible" ++ rest → is_infeasible line ≡ true → ⊥
     last [] e h = clash (sym (ap (λ t. end_in (slice_split is_space t)) e) ∙ none)
       where

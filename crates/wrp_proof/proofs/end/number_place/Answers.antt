@@ -21,7 +21,7 @@ returns-then-shared-ne15-clause-first c =
     let eo = shared-counted (codes "end optimal ") line s.result s.ensures.same s.ensures.text s.ensures.line s.ensures.longest in
     let eu = shared-counted (codes "end unfinished ") line u.result u.ensures.same u.ensures.text u.ensures.line u.ensures.longest in
     absurd (no-number line c.requires.shape c.requires.none
-      (omega (arith, s.ensures.text, eo, c.if-shared-eq12.false)) (omega (arith, u.ensures.text, eu, c.if-shared-ne15.true)))
+    (omega (arith, s.ensures.text, eo, c.if-shared-eq12.false)) (omega (arith, u.ensures.text, eu, c.if-shared-ne15.true)))
 
 pub returns-then-is_none-clause-first : goal.returns-then-is_none-clause-first
 returns-then-is_none-clause-first c =
