@@ -9,6 +9,8 @@ pub mod Proofs
 pub mod Judged
 pub mod Parts
 pub mod Shapes
+pub mod Fronts
 pub mod Spelling
 pub mod Views
+pub mod EndFaults
 pub mod Ends
