@@ -43,7 +43,7 @@ split-solid (b ∷ bytes) = onto (is_space b) refl (slice_split is_space bytes) 
         let both = and_parts (is_solid part) (list_all is_solid parts) h in
         rw (e, both.0, both.1) refl
 
-parts_of-solid : (left : List ℕ) → list_all is_solid (parts_of left) ≡ true
+pub parts_of-solid : (left : List ℕ) → list_all is_solid (parts_of left) ≡ true
 parts_of-solid [] = refl
 parts_of-solid (space ∷ bytes) = split-solid bytes
 

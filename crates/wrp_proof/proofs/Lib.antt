@@ -8,6 +8,14 @@ pub mod StepLists
 pub mod PairLists
 pub mod SetLists
 pub mod LabelLists
+pub mod Fronts
+pub mod PartFronts
+pub mod LeftFronts
+pub mod PartPlaces
+pub mod LineFronts
+pub mod TwoNumbers
+pub mod EndFronts
+pub mod EndNumbers
 pub mod Records
 pub mod LineLaws
 pub mod Narrow
@@ -15,3 +23,6 @@ pub mod EndLaws
 pub mod SpelledLaws
 pub mod Spread
 pub mod RoundTrips
+pub mod Counts
+pub mod Climbs
+pub mod Joins

@@ -54,6 +54,12 @@ parts_of-spread (part ∷ next ∷ parts) h =
     let both = and_parts (is_solid part) (list_all is_solid (next ∷ parts)) h in
     solid_before part (next ++ spread parts) both.0 ∙ ap (λ others. part ∷ others) (parts_of-spread (next ∷ parts) both.1)
 
+-- a part is cut off where what follows it is spaced
+pub solid_cut : (part others : List ℕ) → is_solid part ≡ true → is_spaced others ≡ true → slice_split is_space (part ++ others) ≡ part ∷ parts_of others
+solid_cut part [] solid spaced = solid_alone part solid
+solid_cut part (b ∷ rest) solid spaced =
+    ap (λ c. slice_split is_space (part ++ c ∷ rest)) (eqb-true b 32 spaced) ∙ solid_before part rest solid
+
 -- digits are solid
 pub digits-solid : (xs : List ℕ) → list_all is_ascii_digit xs ≡ true → is_solid xs ≡ true
 digits-solid [] h = refl

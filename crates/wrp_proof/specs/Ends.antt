@@ -1,11 +1,13 @@
 -- The parts of end lines, and the ends that they spell.
 use Rattle.std.specs.Prelude.{codes, ◌≡◌, ℕ, ◌^◌, ◌<◌, ◌≤◌, Bool, true, false, ◌&&◌, ◌||◌, if◌then◌else◌, nat_eq, List, [], ◌∷◌, length, Option, None, Some}
-use Rattle.std.specs.List.{slice_split, starts_with}
+use Rattle.std.specs.List.{before_first, after_first, slice_split, starts_with}
 use Rattle.std.specs.Str.{bytes_eq}
 use Rattle.wrp_proof.specs.declared.record.End.{End}
 use Rattle.wrp_proof.specs.declared.record.End.TheVariants.{Optimal, Infeasible, Unfinished}
 use Rattle.wrp_proof.specs.declared.fault.LineFault.{LineFault}
 use Rattle.wrp_proof.specs.declared.fault.LineFault.TheVariants as faults
+use Rattle.wrp_proof.specs.EndFaults.{IsFirstBadCost}
+use Rattle.wrp_proof.specs.Fronts.{IsLongestFront}
 use Rattle.wrp_proof.specs.Lines.{end_line}
 use Rattle.wrp_proof.specs.Parts.{is_space, is_digits, number_of, is_count_part}
 use Rattle.wrp_proof.specs.Rules.{is_count}
@@ -55,6 +57,10 @@ abbrev pub end_in : List (List ℕ) → Option End
 end_in [] = None
 end_in (first ∷ others) = if bytes_eq first (codes "end") then end_of_parts others else None
 
+-- two numbers with a space between them
+abbrev pub are_two : List ℕ → Bool
+are_two text = is_digits (before_first is_space text) && is_digits (after_first is_space text)
+
 -- the shapes of end lines: numbers are one or more digits
 abbrev pub are_numbers : List ℕ → List (List ℕ) → Bool
 are_numbers word [] = bytes_eq word (codes "infeasible")
@@ -74,10 +80,11 @@ begins_with_end is_shape (first ∷ others) = bytes_eq first (codes "end") && is
 abbrev pub has_end_shape : List ℕ → Bool
 has_end_shape line = begins_with_end has_word_shape (slice_split is_space line)
 
--- the fault of an end line: Form where it isn't in a shape, else Number
+-- the fault of an end line: Form where it isn't in a shape, at the end of its longest front, else
+-- Number, at the first number out of range
 abbrev pub IsEndFault : List ℕ → LineFault → Type 0
-IsEndFault line (faults.Form at) = (length line ≤ 2 ^ 28) × (has_end_shape line ≡ false) × (at ≤ length line)
-IsEndFault line (faults.Number at) = (length line ≤ 2 ^ 28) × (has_end_shape line ≡ true) × (at ≤ length line)
+IsEndFault line (faults.Form at) = (length line ≤ 2 ^ 28) × (has_end_shape line ≡ false) × (at ≤ length line) × IsLongestFront has_end_shape line at
+IsEndFault line (faults.Number at) = (length line ≤ 2 ^ 28) × (has_end_shape line ≡ true) × (at ≤ length line) × IsFirstBadCost line at
 IsEndFault line faults.Long = 2 ^ 28 < length line
 IsEndFault line faults.Memory = ⊥
 

@@ -1,5 +1,5 @@
 -- The shapes of the parts of records: a number may be any run of one or more digits.
-use Rattle.std.specs.Prelude.{codes, ℕ, Bool, true, false, ◌&&◌, if◌then◌else◌, ◌==◌, List, [], ◌∷◌}
+use Rattle.std.specs.Prelude.{codes, ℕ, Bool, true, false, ◌&&◌, ◌||◌, if◌then◌else◌, ◌==◌, List, [], ◌∷◌}
 use Rattle.std.specs.List.{list_all}
 use Rattle.std.specs.Str.{bytes_eq}
 use Rattle.wrp_proof.specs.declared.place.Tail.{Tail}
@@ -9,6 +9,10 @@ use Rattle.wrp_proof.specs.Parts.{is_digits, is_step_shape, is_pair_shape}
 -- the slash between labels and streets
 abbrev pub is_slash : List ℕ → Bool
 is_slash part = bytes_eq part (codes "/")
+
+-- a number or a slash
+abbrev pub is_label : List ℕ → Bool
+is_label part = is_slash part || is_digits part
 
 -- labels, a slash, and streets
 abbrev pub has_labels_shape : List (List ℕ) → Bool

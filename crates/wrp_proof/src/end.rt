@@ -1,10 +1,12 @@
 //! Reads end lines. This takes no memory.
-ghost use Rattle.std.specs.Prelude.{codes, ◌≡◌, ◌∷◌, ◌^◌, ◌<◌, ◌≤◌, length, is_some, IfOk, IfErr, Some, None, if◌then◌else◌};
+ghost use Rattle.std.specs.Prelude.{codes, ℕ, slice_index, ◌≡◌, ◌∷◌, ◌^◌, ◌<◌, ◌≤◌, length, is_some, true, IfOk, IfErr, Some, None, if◌then◌else◌};
 ghost use Rattle.std.specs.List.{slice_split};
 ghost use Rattle.std.specs.Str.{bytes_eq};
 ghost use Rattle.wrp_proof.specs.declared.record.End.{End};
 ghost use Rattle.wrp_proof.specs.Parts.{parts_of, is_space};
-ghost use Rattle.wrp_proof.specs.Ends.{optimal_in, infeasible_in, unfinished_in, end_of_word, end_in, are_numbers, has_end_shape, spelled_end, is_later_end as is_later_line, IsEndLineOf, IsEndFault};
+ghost use Rattle.wrp_proof.specs.EndFaults.{IsFirstBadCost};
+ghost use Rattle.wrp_proof.specs.Fronts.{IsLongestFront};
+ghost use Rattle.wrp_proof.specs.Ends.{are_two, optimal_in, infeasible_in, unfinished_in, end_of_word, end_in, are_numbers, has_end_shape, spelled_end, is_later_end as is_later_line, IsEndLineOf, IsEndFault};
 
 use crate::fault::LineFault;
 use crate::place::digits_before;
@@ -118,7 +120,8 @@ fn read_unfinished(left: &[u8]) -> Option<End>
 
 /// The fault of a line that spells no end.
 fn end_fault(line: &[u8]) -> LineFault
-    requires { length line.now ≤ 2 ^ 28 }
+    requires short { length line.now ≤ 2 ^ 28 }
+    requires none { end_in (slice_split is_space line.now) ≡ None }
     ensures { IsEndFault line.now result }
 {
     if is_end_shape(line) {
@@ -164,7 +167,8 @@ fn is_shape_of_word(word: &[u8], left: &[u8]) -> bool
 
 /// The place at which a line breaks the shapes of end lines.
 fn form_place(line: &[u8]) -> usize
-    ensures { result ≤ length line.now }
+    ensures within { result ≤ length line.now }
+    ensures front { IsLongestFront has_end_shape line.now result }
 {
     let optimal = shared(line, b"end optimal ");
     if optimal == 12 {
@@ -179,7 +183,8 @@ fn form_place(line: &[u8]) -> usize
 
 /// The number of bytes with which a text begins as two numbers with a space between them do.
 fn two_numbers(text: &[u8]) -> usize
-    ensures { result ≤ length text.now }
+    ensures within { result ≤ length text.now }
+    ensures front { IsLongestFront are_two text.now result }
 {
     let low = digits_before(text);
     if low > 0 && low < text.len() && text[low] == b' ' {
@@ -191,7 +196,10 @@ fn two_numbers(text: &[u8]) -> usize
 
 /// The place of the first number of an end line that breaks a rule.
 fn number_place(line: &[u8]) -> usize
-    ensures { result ≤ length line.now }
+    requires shape { has_end_shape line.now ≡ true }
+    requires none { end_in (slice_split is_space line.now) ≡ None }
+    ensures within { result ≤ length line.now }
+    ensures first { IsFirstBadCost line.now result }
 {
     if shared(line, b"end optimal ") == 12 {
         return 12;
@@ -212,6 +220,8 @@ fn number_place(line: &[u8]) -> usize
 fn shared(line: &[u8], text: &[u8]) -> usize
     ensures line { result ≤ length line.now }
     ensures text { result ≤ length text.now }
+    ensures same { (k : ℕ) → k < result → slice_index line.now k ≡ slice_index text.now k }
+    ensures longest { result < length text.now → result < length line.now → slice_index line.now result ≡ slice_index text.now result → ⊥ }
 {
     for (place, byte) in text.iter().enumerate() {
         if place >= line.len() || line[place] != *byte {

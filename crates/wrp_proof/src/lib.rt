@@ -5,6 +5,8 @@
 mod end;
 mod fault;
 mod labels;
+mod lengths;
+mod limits;
 mod numbers;
 mod owned;
 mod parts;
@@ -15,10 +17,12 @@ mod record;
 mod rule;
 mod text;
 mod views;
+mod whole;
 mod writing;
 
 pub use end::{is_later_end, read_end};
 pub use fault::LineFault;
+pub use limits::writable;
 pub use numbers::NumbersOf;
 pub use owned::{read_record, to_record};
 pub use parts::{PairsOf, StepsOf};
@@ -26,4 +30,5 @@ pub use reading::{is_later, view};
 pub use record::{End, Record};
 pub use rule::Rule;
 pub use views::{View, ViewFault};
+pub use whole::proof_text;
 pub use writing::{write_end, write_record};

@@ -1,8 +1,11 @@
 //! Where a line that has no view breaks the shape of its kind. Nothing here takes memory.
-ghost use Rattle.std.specs.Prelude.{◌≡◌, ◌<◌, ◌≤◌, ◌+◌, ◌^◌, not, is_some, length, IfSome};
-ghost use Rattle.std.specs.List.{list_all};
-ghost use Rattle.wrp_proof.specs.Parts.{parts_of, is_digits, is_step_shape, is_pair_shape};
-ghost use Rattle.wrp_proof.specs.Shapes.{is_nothing, has_labels_shape, has_tail_shape, one_then, two_then, three_then, has_parts_shape};
+ghost use Rattle.std.specs.Prelude.{◌≡◌, ◌<◌, ◌≤◌, ◌+◌, ◌^◌, ◌∷◌, not, true, is_some, length, IfSome};
+ghost use Rattle.std.specs.Char.{is_ascii_digit};
+ghost use Rattle.std.specs.List.{list_all, prefix_len};
+ghost use Rattle.wrp_proof.specs.Fronts.{IsLongestFront, is_left};
+ghost use Rattle.wrp_proof.specs.Views.{has_shape};
+ghost use Rattle.wrp_proof.specs.Parts.{parts_of, is_spaced, is_digits, is_step_shape, is_pair_shape};
+ghost use Rattle.wrp_proof.specs.Shapes.{is_nothing, is_label, has_labels_shape, has_tail_shape, one_then, two_then, three_then, has_parts_shape};
 
 use crate::labels::is_slash_text;
 use crate::text::{halves, is_digits_text, is_sign_byte, split_part};
@@ -24,9 +27,11 @@ pub(crate) enum Tail {
 
 /// The place at which a line with this letter, which goes on with `left`, breaks the shape of its kind.
 pub(crate) fn form_place(letter: u8, left: &[u8]) -> Option<usize>
-    requires { length left.now < 2 ^ 28 }
+    requires short { length left.now < 2 ^ 28 }
+    requires spaced { is_spaced left.now ≡ true }
     ensures broken { is_some result ≡ not (has_parts_shape letter (parts_of left.now)) }
     ensures within { IfSome result (λ at. at ≤ length left.now + 1) }
+    ensures front { IfSome result (λ at. IsLongestFront has_shape (letter ∷ left.now) at) }
 {
     let at = match letter {
         b't' => one_form(left, Tail::Steps),
@@ -60,8 +65,10 @@ fn behind_letter(at: Option<usize>) -> Option<usize>
 
 /// The place at which what is left of a line breaks the shape of three numbers and what follows them.
 fn three_form(left: &[u8], tail: Tail) -> Option<usize>
+    requires { is_spaced left.now ≡ true }
     ensures broken { is_some result ≡ not (three_then tail (parts_of left.now)) }
     ensures within { IfSome result (λ at. at ≤ length left.now) }
+    ensures front { IfSome result (λ at. IsLongestFront (is_left (three_then tail)) left.now at) }
 {
     let Some((number, others)) = split_part(left) else {
         return Some(0);
@@ -77,8 +84,10 @@ fn three_form(left: &[u8], tail: Tail) -> Option<usize>
 
 /// The place at which what is left of a line breaks the shape of two numbers and what follows them.
 fn two_form(left: &[u8], tail: Tail) -> Option<usize>
+    requires { is_spaced left.now ≡ true }
     ensures broken { is_some result ≡ not (two_then tail (parts_of left.now)) }
     ensures within { IfSome result (λ at. at ≤ length left.now) }
+    ensures front { IfSome result (λ at. IsLongestFront (is_left (two_then tail)) left.now at) }
 {
     let Some((number, others)) = split_part(left) else {
         return Some(0);
@@ -94,8 +103,10 @@ fn two_form(left: &[u8], tail: Tail) -> Option<usize>
 
 /// The place at which what is left of a line breaks the shape of a number and what follows it.
 fn one_form(left: &[u8], tail: Tail) -> Option<usize>
+    requires { is_spaced left.now ≡ true }
     ensures broken { is_some result ≡ not (one_then tail (parts_of left.now)) }
     ensures within { IfSome result (λ at. at ≤ length left.now) }
+    ensures front { IfSome result (λ at. IsLongestFront (is_left (one_then tail)) left.now at) }
 {
     let Some((number, others)) = split_part(left) else {
         return Some(0);
@@ -111,8 +122,10 @@ fn one_form(left: &[u8], tail: Tail) -> Option<usize>
 
 /// The place at which what is left of a line breaks the shape of what follows the first numbers.
 fn tail_form(left: &[u8], tail: Tail) -> Option<usize>
+    requires { is_spaced left.now ≡ true }
     ensures broken { is_some result ≡ not (has_tail_shape tail (parts_of left.now)) }
     ensures within { IfSome result (λ at. at ≤ length left.now) }
+    ensures front { IfSome result (λ at. IsLongestFront (is_left (has_tail_shape tail)) left.now at) }
 {
     match tail {
         Tail::Steps => steps_form(left),
@@ -125,8 +138,10 @@ fn tail_form(left: &[u8], tail: Tail) -> Option<usize>
 
 /// The place at which what is left of a line breaks the shape of no part.
 fn nothing_form(left: &[u8]) -> Option<usize>
+    requires { is_spaced left.now ≡ true }
     ensures broken { is_some result ≡ not (is_nothing (parts_of left.now)) }
     ensures within { IfSome result (λ at. at ≤ length left.now) }
+    ensures front { IfSome result (λ at. IsLongestFront (is_left is_nothing) left.now at) }
 {
     if split_part(left).is_some() {
         Some(0)
@@ -137,8 +152,10 @@ fn nothing_form(left: &[u8]) -> Option<usize>
 
 /// The place at which what is left of a line breaks the shape of numbers.
 fn numbers_form(line: &[u8]) -> Option<usize>
+    requires { is_spaced line.now ≡ true }
     ensures broken { is_some result ≡ not (list_all is_digits (parts_of line.now)) }
     ensures within { IfSome result (λ at. at ≤ length line.now) }
+    ensures front { IfSome result (λ at. IsLongestFront (is_left (list_all is_digits)) line.now at) }
 {
     let mut left = line;
     while let Some((part, others)) = split_part(left) {
@@ -152,8 +169,10 @@ fn numbers_form(line: &[u8]) -> Option<usize>
 
 /// The place at which what is left of a line breaks the shape of labels, a slash, and streets.
 fn labels_form(line: &[u8]) -> Option<usize>
+    requires { is_spaced line.now ≡ true }
     ensures broken { is_some result ≡ not (has_labels_shape (parts_of line.now)) }
     ensures within { IfSome result (λ at. at ≤ length line.now) }
+    ensures front { IfSome result (λ at. IsLongestFront (is_left has_labels_shape) line.now at) }
 {
     let mut left = line;
     while let Some((part, others)) = split_part(left) {
@@ -174,18 +193,25 @@ fn labels_form(line: &[u8]) -> Option<usize>
 
 /// The place at which a part breaks the shapes of a label and of a slash.
 fn label_form(part: &[u8]) -> usize
-    ensures { result ≤ length part.now }
+    ensures within { result ≤ length part.now }
+    ensures front { IsLongestFront is_label part.now result }
 {
-    match part.first() {
-        Some(byte) if *byte == b'/' => 1,
-        _ => digits_before(part),
+    let Some((byte, _)) = part.split_first() else {
+        return 0;
+    };
+    if *byte == b'/' {
+        1
+    } else {
+        digits_before(part)
     }
 }
 
 /// The place at which what is left of a line breaks the shape of steps.
 fn steps_form(line: &[u8]) -> Option<usize>
+    requires { is_spaced line.now ≡ true }
     ensures broken { is_some result ≡ not (list_all is_step_shape (parts_of line.now)) }
     ensures within { IfSome result (λ at. at ≤ length line.now) }
+    ensures front { IfSome result (λ at. IsLongestFront (is_left (list_all is_step_shape)) line.now at) }
 {
     let mut left = line;
     while let Some((part, others)) = split_part(left) {
@@ -209,7 +235,8 @@ fn is_step_text(part: &[u8]) -> bool
 
 /// The place at which a part breaks the shape of a step.
 fn step_form(part: &[u8]) -> usize
-    ensures { result ≤ length part.now }
+    ensures within { result ≤ length part.now }
+    ensures front { IsLongestFront is_step_shape part.now result }
 {
     let digits = digits_before(part);
     if digits > 0 && digits < part.len() && is_sign_byte(part[digits]) {
@@ -221,7 +248,8 @@ fn step_form(part: &[u8]) -> usize
 
 /// The number of digits with which a part begins.
 pub(crate) fn digits_before(part: &[u8]) -> usize
-    ensures { result ≤ length part.now }
+    ensures within { result ≤ length part.now }
+    ensures digits { result ≡ prefix_len is_ascii_digit part.now }
 {
     for (place, byte) in part.iter().enumerate() {
         if !byte.is_ascii_digit() {
@@ -233,8 +261,10 @@ pub(crate) fn digits_before(part: &[u8]) -> usize
 
 /// The place at which what is left of a line breaks the shape of pairs.
 fn pairs_form(line: &[u8]) -> Option<usize>
+    requires { is_spaced line.now ≡ true }
     ensures broken { is_some result ≡ not (list_all is_pair_shape (parts_of line.now)) }
     ensures within { IfSome result (λ at. at ≤ length line.now) }
+    ensures front { IfSome result (λ at. IsLongestFront (is_left (list_all is_pair_shape)) line.now at) }
 {
     let mut left = line;
     while let Some((part, others)) = split_part(left) {
@@ -256,7 +286,8 @@ fn is_pair_text(part: &[u8]) -> bool
 
 /// The place at which a part breaks the shape of a pair.
 fn pair_form(part: &[u8]) -> usize
-    ensures { result ≤ length part.now }
+    ensures within { result ≤ length part.now }
+    ensures front { IsLongestFront is_pair_shape part.now result }
 {
     let first = digits_before(part);
     if first > 0 && first < part.len() && part[first] == b':' {

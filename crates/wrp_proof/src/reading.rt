@@ -1,10 +1,11 @@
 //! Reads the lines of records. This takes no memory.
-ghost use Rattle.std.specs.Prelude.{◌≡◌, ◌∷◌, ◌^◌, ◌≤◌, Some, None, true, length, IfOk, IfErr};
+ghost use Rattle.std.specs.Prelude.{◌≡◌, ◌∷◌, ℕ, ◌^◌, ◌≤◌, List, Some, None, true, false, length, IfOk, IfErr};
 ghost use Rattle.std.specs.Option.{option_map};
 ghost use Rattle.wrp_proof.specs.declared.record.Record.{Record};
 ghost use Rattle.wrp_proof.specs.Parts.{is_spaced, parts_of};
 ghost use Rattle.wrp_proof.specs.Spelling.{record_in, tour_in, conn_in, odd_in, round_in, kc_in, bound_in, empty_in, apart_in, point_in, blind_in, split_in, labels_in};
-ghost use Rattle.wrp_proof.specs.Views.{record_of, is_later_letter, goes_on as goes_on_behind, is_later as is_later_line, spelled as record_spelled, IsLineOf, IsFaultOf};
+ghost use Rattle.wrp_proof.specs.Fronts.{IsLongestFront};
+ghost use Rattle.wrp_proof.specs.Views.{record_of, has_shape, is_letter, is_later_letter, goes_on as goes_on_behind, is_later as is_later_line, spelled as record_spelled, IsLineOf, IsFaultOf};
 
 use crate::labels::label_halves;
 use crate::numbers::NumbersOf;
@@ -259,13 +260,17 @@ fn fault_of(line: &[u8]) -> ViewFault
 
 /// How many bytes of a line's letter stand in a line of a record.
 fn letter_length(letter: u8) -> u64
-    ensures { result ≤ 1 }
+    ensures within { result ≤ 1 }
+    ensures front { (left : List ℕ) → is_spaced left ≡ false → IsLongestFront has_shape (letter ∷ left) result }
 {
-    if letter == b't' || letter == b'b' || is_later_kind(letter) {
-        1
-    } else {
-        0
-    }
+    if is_record_letter(letter) { 1 } else { 0 }
+}
+
+/// Whether lines of records begin with the letter.
+fn is_record_letter(letter: u8) -> bool
+    ensures { result ≡ is_letter letter }
+{
+    b"tcorkbeapzsn".iter().any(|byte| letter == *byte)
 }
 
 #[cfg(test)]
