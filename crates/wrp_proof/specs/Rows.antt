@@ -6,10 +6,10 @@ use Rattle.wrp_sums.specs.Sums.{sum_over}
 use Rattle.wrp_sums.specs.Rounding.{ceil_div}
 use Rattle.wrp_town.specs.declared.town.Town.{Town}
 use Rattle.wrp_town.specs.Streets.{forward_arc}
-use Rattle.wrp_town.specs.Arcs.{tail_of, head_of, legal_arcs, junctions, demands, has_arc}
+use Rattle.wrp_town.specs.Arcs.{tail_of, head_of, legal_arcs, junctions, demands, has_arc, is_required}
 use Rattle.wrp_proof.specs.declared.record.Record.{Record}
 use Rattle.wrp_proof.specs.declared.record.Record.TheVariants.{Tour, Conn, Odd, Round, Kc, Bound, Empty, Apart, Point, Blind, Split, Labels}
-use Rattle.wrp_proof.specs.Sets.{leaves, crosses, crossing_demands, arc_at, is_required}
+use Rattle.wrp_proof.specs.Sets.{leaves, crosses, crossing_demands, arc_at}
 
 -- the sum over legal arcs of coefficient times number is at least the right side
 pub record Row : Type 0 where

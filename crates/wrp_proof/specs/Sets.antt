@@ -1,11 +1,10 @@
 -- Sets of junctions, and what crosses them.
-use Rattle.std.specs.Prelude.{ℕ, ◌/◌, ◌*◌, ◌+◌, Bool, true, false, ◌&&◌, ◌||◌, not, ◌==◌, nat_eq, nat_le, List, [], ◌∷◌, length, slice_index, slice_index_or, slice_get, Option, None, Some}
-use Rattle.std.specs.Option.{option_map_or}
+use Rattle.std.specs.Prelude.{ℕ, ◌/◌, ◌*◌, ◌+◌, Bool, true, false, ◌&&◌, ◌||◌, not, ◌==◌, nat_eq, nat_le, List, [], ◌∷◌, length, slice_index, slice_index_or, Option, None, Some}
 use Rattle.std.specs.List.{list_any, list_all, count_by}
 use Rattle.wrp_town.specs.declared.street.Street.{Street}
 use Rattle.wrp_town.specs.declared.town.Town.{Town}
-use Rattle.wrp_town.specs.Streets.{demands_at, forward_arc}
-use Rattle.wrp_town.specs.Arcs.{tail_of, head_of, demands}
+use Rattle.wrp_town.specs.Streets.{forward_arc}
+use Rattle.wrp_town.specs.Arcs.{tail_of, head_of, demands, is_required}
 
 -- the junction is in the set
 abbrev pub is_in : List ℕ → ℕ → Bool
@@ -26,10 +25,6 @@ arc_at demand = slice_index demand 0
 -- how many demands have a street that crosses the set
 abbrev pub crossing_demands : Town → List ℕ → ℕ
 crossing_demands town set = count_by (λ demand. crosses town set (arc_at demand)) (demands town)
-
--- the street is there and has a demand
-abbrev pub is_required : Town → ℕ → Bool
-is_required town street = option_map_or (λ s. not (length (demands_at street s.need) == 0)) (slice_get town.streets street) false
 
 -- the street has both ends in the set, or none
 abbrev pub lies_in : Town → List ℕ → ℕ → Bool

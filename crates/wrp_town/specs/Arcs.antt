@@ -1,11 +1,11 @@
 -- The arcs of a town. Arc `2 * s` is street s from its first end to its second, arc `2 * s + 1` the same back.
-use Rattle.std.specs.Prelude.{◌≡◌, ℕ, ◌+◌, ◌*◌, ◌/◌, ◌%◌, Bool, true, false, ◌&&◌, not, if◌then◌else◌, ◌==◌, nat_eq, nat_le, List, length, Option, None, Some, is_some, slice_get}
+use Rattle.std.specs.Prelude.{ℕ, ◌+◌, ◌*◌, ◌/◌, ◌%◌, Bool, true, false, ◌&&◌, not, if◌then◌else◌, ◌==◌, nat_eq, nat_le, List, length, Option, is_some, slice_get}
 use Rattle.std.specs.Option.{unwrap_or, option_map_or, option_and_then}
 use Rattle.std.specs.List.{filter, list_all, list_any, range_with_len}
 use Rattle.wrp_town.specs.declared.street.Street.{Street}
 use Rattle.wrp_town.specs.declared.street.Step.{Step}
 use Rattle.wrp_town.specs.declared.town.Town.{Town}
-use Rattle.wrp_town.specs.Streets.{demands_from}
+use Rattle.wrp_town.specs.Streets.{demands_at, demands_from}
 
 -- the street of an arc
 abbrev pub street_of : Town → ℕ → Option Street
@@ -45,6 +45,10 @@ junctions town = range_with_len 0 (length town.junctions)
 -- the demands of the town in the order of their streets: each a list of arcs, of which a tour uses at least one
 abbrev pub demands : Town → List (List ℕ)
 demands town = demands_from 0 town.streets
+
+-- the street is there and has a demand
+abbrev pub is_required : Town → ℕ → Bool
+is_required town street = option_map_or (λ s. not (length (demands_at street s.need) == 0)) (slice_get town.streets street) false
 
 -- the arc is one of these
 abbrev pub has_arc : List ℕ → ℕ → Bool

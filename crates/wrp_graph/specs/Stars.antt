@@ -1,0 +1,13 @@
+-- The star of a junction: the legal arcs that leave it, and those that enter it.
+use Rattle.std.specs.Prelude.{ℕ, ◌==◌, List}
+use Rattle.std.specs.List.{filter}
+use Rattle.wrp_town.specs.declared.town.Town.{Town}
+use Rattle.wrp_town.specs.Arcs.{tail_of, head_of, legal_arcs}
+
+-- the legal arcs that leave a junction, ascending
+abbrev pub out_of : Town → ℕ → List ℕ
+out_of town j = filter (λ arc. tail_of town arc == j) (legal_arcs town)
+
+-- the legal arcs that enter a junction, ascending
+abbrev pub into : Town → ℕ → List ℕ
+into town j = filter (λ arc. head_of town arc == j) (legal_arcs town)

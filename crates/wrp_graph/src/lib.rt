@@ -1,0 +1,8 @@
+//! The street network as a graph: the legal arcs at each junction.
+#![tactic(auto)]
+
+mod buckets;
+mod graph;
+
+pub use buckets::Buckets;
+pub use graph::Graph;
