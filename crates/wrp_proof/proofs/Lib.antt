@@ -16,6 +16,9 @@ pub mod LineFronts
 pub mod TwoNumbers
 pub mod EndFronts
 pub mod EndNumbers
+pub mod FirstNumbers
+pub mod PairNumbers
+pub mod NumberLaws
 pub mod Records
 pub mod LineLaws
 pub mod Narrow

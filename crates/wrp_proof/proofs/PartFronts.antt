@@ -134,7 +134,7 @@ and-swap false false c = refl
 size-more : (b c : ℕ) (t : List ℕ) → length (b ∷ c ∷ t) - 1 ≡ suc (length (c ∷ t) - 1)
 size-more b c t = omega arith
 
-sign-more : (b c : ℕ) (t : List ℕ) → sign_of (b ∷ c ∷ t) ≡ sign_of (c ∷ t)
+pub sign-more : (b c : ℕ) (t : List ℕ) → sign_of (b ∷ c ∷ t) ≡ sign_of (c ∷ t)
 sign-more b c t = ap (slice_index (b ∷ c ∷ t)) (size-more b c t)
 
 street-more : (b c : ℕ) (t : List ℕ) → street_part (b ∷ c ∷ t) ≡ b ∷ street_part (c ∷ t)
@@ -206,10 +206,10 @@ pair-text-front (b ∷ text) = elim (cases_Bool (is_ascii_digit b)) [
 place-more : (b : ℕ) (t : List ℕ) → is_colon b ≡ false → position_or_len is_colon (b ∷ t) ≡ suc (position_or_len is_colon t)
 place-more b t other = ap (λ c. cond (not c) (1 + position_or_len is_colon t) 0) other ∙ omega arith
 
-first-more : (b : ℕ) (t : List ℕ) → is_colon b ≡ false → first_half (b ∷ t) ≡ b ∷ first_half t
+pub first-more : (b : ℕ) (t : List ℕ) → is_colon b ≡ false → first_half (b ∷ t) ≡ b ∷ first_half t
 first-more b t other = ap (λ k. take k (b ∷ t)) (place-more b t other)
 
-second-more : (b : ℕ) (t : List ℕ) → is_colon b ≡ false → second_half (b ∷ t) ≡ second_half t
+pub second-more : (b : ℕ) (t : List ℕ) → is_colon b ≡ false → second_half (b ∷ t) ≡ second_half t
 second-more b t other =
     let k : ℕ = position_or_len is_colon t in
     let size : position_or_len is_colon (b ∷ t) + 1 ≡ suc (k + 1) = omega (arith, place-more b t other) in

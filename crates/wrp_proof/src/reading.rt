@@ -239,7 +239,8 @@ fn read_labels(left: &[u8]) -> Option<View<'_>>
 
 /// The fault of a line that spells no record.
 fn fault_of(line: &[u8]) -> ViewFault
-    requires { length line.now ≤ 2 ^ 28 }
+    requires short { length line.now ≤ 2 ^ 28 }
+    requires none { record_spelled line.now ≡ None }
     ensures { IsFaultOf line.now result }
 {
     let Some((letter, rest)) = line.split_first() else {
