@@ -7,6 +7,7 @@ use Rattle.wrp_proof.specs.declared.ranges.Range.TheVariants.{Count, Index, From
 use Rattle.wrp_proof.specs.Rules.{is_count, is_index, is_from_one}
 use Rattle.wrp_proof.specs.Shapes.{is_slash}
 use Rattle.std.proofs.Common.{Option, Some, None, is_some, not, slice_index, ◌==◌, inl, inr, arith, codes, ◌≡◌, ℕ, ◌+◌, ◌-◌, ◌≤◌, ◌<◌, Bool, true, false, cond, ◌&&◌, ◌||◌, nat_le, nat_lt, List, [], ◌∷◌, ◌++◌, length, refl, sym, ap, ◌∙◌, subst, append_assoc}
+use Rattle.std.proofs.Math.Bool.{and-false}
 use Rattle.std.proofs.lemmas.Bool.{and_parts, and_from, cases_Bool, false≢true, true≢false}
 use Rattle.std.proofs.lemmas.List.{append-nil, length-append}
 use Rattle.std.specs.List.{list_all}
@@ -98,22 +99,9 @@ first-same whole other line at same h = record {
   place = h.place ∙ ap (λ b. length (spaced [] h.before) + 1 + cond b (length h.part - length (second_half h.part)) 0) (same (h.before ++ (first_half h.part ++ codes ":1") ∷ []));
 }
 
--- what a reader says of its part
-pub unread : {A : Type 0} (b : Bool) (x : A) (r : Option A) (none : Bool) → r ≡ cond b (Some x) None → is_some r ≡ not none → none ≡ true → b ≡ false
-unread true x r none e f g = sym (ap not (sym g) ∙ sym f ∙ ap is_some e)
-unread false x r none e f g = refl
-
-pub has-read : {A : Type 0} (b : Bool) (x : A) (r : Option A) (none : Bool) → r ≡ cond b (Some x) None → is_some r ≡ not none → none ≡ false → b ≡ true
-has-read true x r none e f g = refl
-has-read false x r none e f g = sym (ap not (sym g) ∙ sym f ∙ ap is_some e)
-
 -- a part with a colon is no number
 colon-digits : (xs : List ℕ) → list_all is_ascii_digit (xs ++ codes ":1") ≡ false
 colon-digits xs = list_all-append is_ascii_digit xs (codes ":1") ∙ and-false (list_all is_ascii_digit xs)
-  where
-    and-false : (a : Bool) → (a && false) ≡ false
-    and-false true = refl
-    and-false false = refl
 
 pub colon-number : (xs : List ℕ) → is_number (xs ++ codes ":1") ≡ false
 colon-number xs = go (nat_lt 0 (length (xs ++ codes ":1"))) (list_all is_ascii_digit (xs ++ codes ":1")) (colon-digits xs)
@@ -144,15 +132,3 @@ sign-end (b ∷ c ∷ xs) = sign-more b c (xs ++ codes ":1") ∙ sign-end (c ∷
 
 pub colon-step : (xs : List ℕ) → is_step (xs ++ codes ":1") ≡ false
 colon-step xs = ap (λ s. is_sign s && (is_number (street_part (xs ++ codes ":1")) && is_index (number_of (street_part (xs ++ codes ":1"))))) (sign-end xs)
-
-pub got-some : (b : Bool) (x y : ℕ) → Some y ≡ cond b (Some x) None → (b ≡ true) × (y ≡ x)
-got-some true x y h = (refl, cc)
-got-some false x y h = cc
-
-pub got-none : (b : Bool) (x : ℕ) → None ≡ cond b (Some x) None → b ≡ false
-got-none true x h = cc
-got-none false x h = refl
-
-pub or-true : (a : Bool) → (a || true) ≡ true
-or-true true = refl
-or-true false = refl

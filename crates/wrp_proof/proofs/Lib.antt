@@ -1,3 +1,5 @@
+pub mod Guards
+pub mod Positions
 pub mod NumberTexts
 pub mod Cutting
 pub mod Digits

@@ -1,5 +1,6 @@
 -- Parts in a shape spell a record exactly where they keep the rules of numbers.
 use Rattle.std.proofs.Common.{inl, inr, arith, suc, not, ◌+◌, codes, Option, Some, None, is_some, ◌≡◌, ℕ, ◌^◌, Bool, true, false, cond, ◌&&◌, ◌||◌, ◌==◌, List, [], ◌∷◌, map, take, drop, refl, sym, ap, ◌∙◌}
+use Rattle.std.proofs.Math.Bool.{and-true}
 use Rattle.std.proofs.lemmas.Bool.{and_parts, cases_Bool, false≢true}
 use Rattle.std.proofs.lemmas.Slice.Eq.{bytes_eq-Decides}
 use Rattle.std.specs.List.{list_all, list_any, position_or_len}
@@ -11,11 +12,9 @@ use Rattle.wrp_proof.specs.Parts.{is_spaced, parts_of, is_digits, number_of, num
 use Rattle.wrp_proof.specs.Shapes.{is_slash, has_labels_shape, one_then, two_then, three_then, has_tail_shape, has_parts_shape}
 use Rattle.wrp_proof.specs.Spelling.{record_in, tour_in, conn_in, odd_in, round_in, kc_in, bound_in, empty_in, apart_in, point_in, blind_in, split_in, labels_in, label_parts, street_parts}
 use Rattle.wrp_proof.specs.Views.{spelled}
+use Rattle.wrp_proof.proofs.Guards.{guard-test}
+use Rattle.wrp_proof.proofs.Positions.{before-more, after-more}
 use Rattle.wrp_proof.proofs.LabelLists.{before-slash, after-slash}
-
-some-cond : (b : Bool) (x : Record) → is_some (cond b (Some x) None) ≡ b
-some-cond true x = refl
-some-cond false x = refl
 
 never : {P : Type 0} (a : Bool) → (a && false) ≡ true → P
 never true h = absurd (false≢true h)
@@ -28,10 +27,6 @@ never-two false b h = absurd (false≢true h)
 never-three : {P : Type 0} (a b c : Bool) → (a && (b && (c && false))) ≡ true → P
 never-three true b c h = never-two b c h
 never-three false b c h = absurd (false≢true h)
-
-and-true : (a : Bool) → a ≡ (a && true)
-and-true true = refl
-and-true false = refl
 
 -- ---- lists of numbers
 
@@ -52,52 +47,52 @@ labels-numbers (part ∷ parts) h =
 
 tour : (parts : List (List ℕ)) → one_then tails.Steps parts ≡ true → is_some (tour_in parts) ≡ keeps_then is_count_part (list_all is_step) parts
 tour [] h = absurd (false≢true h)
-tour (cost ∷ steps) h = some-cond (is_count_part cost && list_all is_step steps) (Tour (number_of cost) (map step_of steps))
+tour (cost ∷ steps) h = guard-test (is_count_part cost && list_all is_step steps) (Tour (number_of cost) (map step_of steps))
 
 conn : (parts : List (List ℕ)) → two_then tails.Numbers parts ≡ true → is_some (conn_in parts) ≡ keeps_then is_index_part (keeps_then is_index_part are_set_parts) parts
 conn [] h = absurd (false≢true h)
 conn (r1 ∷ []) h = never (is_digits r1) h
-conn (r1 ∷ r2 ∷ set) h = some-cond (is_index_part r1 && (is_index_part r2 && are_set_parts set)) (Conn (number_of r1) (number_of r2) (numbers_of set))
+conn (r1 ∷ r2 ∷ set) h = guard-test (is_index_part r1 && (is_index_part r2 && are_set_parts set)) (Conn (number_of r1) (number_of r2) (numbers_of set))
 
 odd : (parts : List (List ℕ)) → has_tail_shape tails.Numbers parts ≡ true → is_some (odd_in parts) ≡ are_set_parts parts
-odd set h = some-cond (are_set_parts set) (Odd (numbers_of set))
+odd set h = guard-test (are_set_parts set) (Odd (numbers_of set))
 
 round : (parts : List (List ℕ)) → one_then tails.Pairs parts ≡ true → is_some (round_in parts) ≡ keeps_then (is_from_one_part (2 ^ 20)) (are_multiplier_parts (2 ^ 40)) parts
 round [] h = absurd (false≢true h)
-round (divisor ∷ mult) h = some-cond (is_from_one_part (2 ^ 20) divisor && are_multiplier_parts (2 ^ 40) mult) (Round (number_of divisor) (map pair_of mult))
+round (divisor ∷ mult) h = guard-test (is_from_one_part (2 ^ 20) divisor && are_multiplier_parts (2 ^ 40) mult) (Round (number_of divisor) (map pair_of mult))
 
 kc : (parts : List (List ℕ)) → one_then tails.Numbers parts ≡ true → is_some (kc_in parts) ≡ keeps_then is_index_part are_labels parts
 kc [] h = absurd (false≢true h)
 kc (k ∷ sets) h =
-    some-cond (is_index_part k && list_all is_index_part sets) (Kc (number_of k) (numbers_of sets))
+    guard-test (is_index_part k && list_all is_index_part sets) (Kc (number_of k) (numbers_of sets))
     ∙ ap (λ b. is_index_part k && b) (sym (labels-numbers sets (and_parts (is_digits k) (list_all is_digits sets) h).1))
 
 bound : (parts : List (List ℕ)) → two_then tails.Pairs parts ≡ true → is_some (bound_in parts) ≡ keeps_then is_count_part (keeps_then (is_from_one_part (2 ^ 40)) (are_multiplier_parts (2 ^ 60))) parts
 bound [] h = absurd (false≢true h)
 bound (node ∷ []) h = never (is_digits node) h
 bound (node ∷ den ∷ mult) h =
-    some-cond (is_count_part node && (is_from_one_part (2 ^ 40) den && are_multiplier_parts (2 ^ 60) mult)) (Bound (number_of node) (number_of den) (map pair_of mult))
+    guard-test (is_count_part node && (is_from_one_part (2 ^ 40) den && are_multiplier_parts (2 ^ 60) mult)) (Bound (number_of node) (number_of den) (map pair_of mult))
 
 empty : (parts : List (List ℕ)) → one_then tails.Pairs parts ≡ true → is_some (empty_in parts) ≡ keeps_then is_count_part (are_multiplier_parts (2 ^ 60)) parts
 empty [] h = absurd (false≢true h)
-empty (node ∷ mult) h = some-cond (is_count_part node && are_multiplier_parts (2 ^ 60) mult) (Empty (number_of node) (map pair_of mult))
+empty (node ∷ mult) h = guard-test (is_count_part node && are_multiplier_parts (2 ^ 60) mult) (Empty (number_of node) (map pair_of mult))
 
 apart : (parts : List (List ℕ)) → three_then tails.Numbers parts ≡ true → is_some (apart_in parts) ≡ keeps_then is_count_part (keeps_then is_index_part (keeps_then is_index_part are_set_parts)) parts
 apart [] h = absurd (false≢true h)
 apart (node ∷ []) h = never (is_digits node) h
 apart (node ∷ r1 ∷ []) h = never-two (is_digits node) (is_digits r1) h
 apart (node ∷ r1 ∷ r2 ∷ set) h =
-    some-cond (is_count_part node && (is_index_part r1 && (is_index_part r2 && are_set_parts set))) (Apart (number_of node) (number_of r1) (number_of r2) (numbers_of set))
+    guard-test (is_count_part node && (is_index_part r1 && (is_index_part r2 && are_set_parts set))) (Apart (number_of node) (number_of r1) (number_of r2) (numbers_of set))
 
 point : (parts : List (List ℕ)) → two_then tails.Pairs parts ≡ true → is_some (point_in parts) ≡ keeps_then is_count_part (keeps_then (is_from_one_part (2 ^ 60)) (are_pair_parts (2 ^ 72))) parts
 point [] h = absurd (false≢true h)
 point (node ∷ []) h = never (is_digits node) h
 point (node ∷ den ∷ numbers) h =
-    some-cond (is_count_part node && (is_from_one_part (2 ^ 60) den && are_pair_parts (2 ^ 72) numbers)) (Point (number_of node) (number_of den) (map pair_of numbers))
+    guard-test (is_count_part node && (is_from_one_part (2 ^ 60) den && are_pair_parts (2 ^ 72) numbers)) (Point (number_of node) (number_of den) (map pair_of numbers))
 
 blind : (parts : List (List ℕ)) → one_then tails.Nothing parts ≡ true → is_some (blind_in parts) ≡ keeps_then is_count_part are_labels parts
 blind [] h = absurd (false≢true h)
-blind (node ∷ []) h = some-cond (is_count_part node) (Blind (number_of node)) ∙ and-true (is_count_part node)
+blind (node ∷ []) h = guard-test (is_count_part node) (Blind (number_of node)) ∙ sym (and-true (is_count_part node))
 blind (node ∷ next ∷ others) h = never (is_digits node) h
 
 split : (parts : List (List ℕ)) → three_then tails.Nothing parts ≡ true → is_some (split_in parts) ≡ keeps_then is_count_part (keeps_then is_index_part (keeps_then is_index_part are_labels)) parts
@@ -105,20 +100,11 @@ split [] h = absurd (false≢true h)
 split (node ∷ []) h = never (is_digits node) h
 split (node ∷ arc ∷ []) h = never-two (is_digits node) (is_digits arc) h
 split (node ∷ arc ∷ k ∷ []) h =
-    some-cond (is_count_part node && (is_index_part arc && is_index_part k)) (Split (number_of node) (number_of arc) (number_of k))
-    ∙ ap (λ b. is_count_part node && (is_index_part arc && b)) (and-true (is_index_part k))
+    guard-test (is_count_part node && (is_index_part arc && is_index_part k)) (Split (number_of node) (number_of arc) (number_of k))
+    ∙ ap (λ b. is_count_part node && (is_index_part arc && b)) (sym (and-true (is_index_part k)))
 split (node ∷ arc ∷ k ∷ next ∷ others) h = never-three (is_digits node) (is_digits arc) (is_digits k) h
 
 -- labels on both sides of a slash
-place-more : (part : List ℕ) (parts : List (List ℕ)) → is_slash part ≡ false → position_or_len is_slash (part ∷ parts) ≡ suc (position_or_len is_slash parts)
-place-more part parts other = ap (λ c. cond (not c) (1 + position_or_len is_slash parts) 0) other ∙ omega arith
-
-both-more : (part : List ℕ) (parts : List (List ℕ)) → is_slash part ≡ false → (label_parts (part ∷ parts) ≡ part ∷ label_parts parts) × (street_parts (part ∷ parts) ≡ street_parts parts)
-both-more part parts other =
-    let k : ℕ = position_or_len is_slash parts in
-    let size : position_or_len is_slash (part ∷ parts) + 1 ≡ suc (k + 1) = omega (arith, place-more part parts other) in
-    (ap (λ n. take n (part ∷ parts)) (place-more part parts other), ap (λ n. drop n (part ∷ parts)) size)
-
 labels-same : (parts : List (List ℕ)) → has_labels_shape parts ≡ true
     → (list_any is_slash parts && (list_all is_index_part (label_parts parts) && list_all is_index_part (street_parts parts))) ≡ are_labels parts
 labels-same [] h = absurd (false≢true h)
@@ -131,11 +117,10 @@ labels-same (part ∷ parts) h = elim (cases_Bool (is_slash part)) [
       ∙ sym (labels-numbers parts digits)
       ∙ sym (ap (λ s. (s || is_index_part part) && are_labels parts) slash)
   | inr other ↦
-      let more = both-more part parts other in
       let shape : (is_digits part && has_labels_shape parts) ≡ true = sym (ap (λ s. cond s (list_all is_digits parts) (is_digits part && has_labels_shape parts)) other) ∙ h in
       ap (λ s. (s || list_any is_slash parts) && (list_all is_index_part (label_parts (part ∷ parts)) && list_all is_index_part (street_parts (part ∷ parts)))) other
-      ∙ ap (λ ps. list_any is_slash parts && (list_all is_index_part ps && list_all is_index_part (street_parts (part ∷ parts)))) more.0
-      ∙ ap (λ ps. list_any is_slash parts && ((is_index_part part && list_all is_index_part (label_parts parts)) && list_all is_index_part ps)) more.1
+      ∙ ap (λ ps. list_any is_slash parts && (list_all is_index_part ps && list_all is_index_part (street_parts (part ∷ parts)))) (before-more is_slash part parts other)
+      ∙ ap (λ ps. list_any is_slash parts && ((is_index_part part && list_all is_index_part (label_parts parts)) && list_all is_index_part ps)) (after-more is_slash part parts other)
       ∙ swap (list_any is_slash parts) (is_index_part part) (list_all is_index_part (label_parts parts)) (list_all is_index_part (street_parts parts))
       ∙ ap (λ b. is_index_part part && b) (labels-same parts (and_parts (is_digits part) (has_labels_shape parts) shape).1)
       ∙ sym (ap (λ s. (s || is_index_part part) && are_labels parts) other)
@@ -152,7 +137,7 @@ labels-same (part ∷ parts) h = elim (cases_Bool (is_slash part)) [
 
 labels : (parts : List (List ℕ)) → has_tail_shape tails.Labels parts ≡ true → is_some (labels_in parts) ≡ are_labels parts
 labels parts h =
-    some-cond (list_any is_slash parts && (list_all is_index_part (label_parts parts) && list_all is_index_part (street_parts parts))) (Labels (numbers_of (label_parts parts)) (numbers_of (street_parts parts)))
+    guard-test (list_any is_slash parts && (list_all is_index_part (label_parts parts) && list_all is_index_part (street_parts parts))) (Labels (numbers_of (label_parts parts)) (numbers_of (street_parts parts)))
     ∙ labels-same parts h
 
 -- ---- by letter

@@ -1,5 +1,6 @@
 -- The first number of pairs that breaks a rule.
 use Rattle.std.proofs.Common.{inl, inr, arith, codes, ◌≡◌, ℕ, ◌+◌, ◌-◌, ◌<◌, ◌≤◌, Bool, true, false, cond, ◌&&◌, nat_lt, nat_le, List, [], ◌∷◌, ◌++◌, length, refl, sym, ap, ◌∙◌, subst, append_assoc}
+use Rattle.std.proofs.Math.Bool.{and-true, and-false}
 use Rattle.std.proofs.lemmas.Bool.{and_parts, and_from, cases_Bool, eqb-true, leb-true, le-leb, false≢true}
 use Rattle.std.proofs.lemmas.List.{length-append}
 use Rattle.wrp_proof.specs.Lines.{spaced}
@@ -7,7 +8,7 @@ use Rattle.wrp_proof.specs.Numbers.{IsFirstBad, are_few_pairs, is_next_first}
 use Rattle.wrp_proof.specs.Parts.{parts_of, number_of, is_index_part, is_from_one_part, is_colon, first_half, second_half, is_pair, pair_of, are_pair_parts}
 use Rattle.wrp_proof.proofs.FirstNumbers.{KeepsTo, keeps-more, keeps-bad}
 use Rattle.wrp_proof.proofs.PairLists.{go_up, go_up-start, few-parts}
-use Rattle.wrp_proof.proofs.PartFronts.{first-more, second-more}
+use Rattle.wrp_proof.proofs.Positions.{before-more, after-more}
 
 -- another second number
 other-second : (part second : List ℕ) → (first_half (first_half part ++ 58 ∷ second) ≡ first_half part) × (second_half (first_half part ++ 58 ∷ second) ≡ second)
@@ -19,9 +20,9 @@ other-second (b ∷ part) second = elim (cases_Bool (is_colon b)) [
   | inr other ↦
       let rest = other-second part second in
       let whole : List ℕ = first_half part ++ 58 ∷ second in
-      let more : first_half (b ∷ part) ≡ b ∷ first_half part = first-more b part other in (
-        ap (λ half. first_half (half ++ 58 ∷ second)) more ∙ first-more b whole other ∙ ap (λ half. b ∷ half) rest.0 ∙ sym more,
-        ap (λ half. second_half (half ++ 58 ∷ second)) more ∙ second-more b whole other ∙ rest.1,
+      let more : first_half (b ∷ part) ≡ b ∷ first_half part = before-more is_colon b part other in (
+        ap (λ half. first_half (half ++ 58 ∷ second)) more ∙ before-more is_colon b whole other ∙ ap (λ half. b ∷ half) rest.0 ∙ sym more,
+        ap (λ half. second_half (half ++ 58 ∷ second)) more ∙ after-more is_colon b whole other ∙ rest.1,
       )
 ]
 
@@ -33,16 +34,8 @@ next-pair most low room part ps =
     (swap (is_index_part (first_half part)) (is_from_one_part most (second_half part)) (nat_lt 0 room && nat_le low (number_of (first_half part))))
   where
     swap : (a b c : Bool) → ((a && b) && c) ≡ ((a && c) && b)
-    swap true true c = sym (right c)
-      where
-        right : (c : Bool) → (c && true) ≡ c
-        right true = refl
-        right false = refl
-    swap true false c = sym (right c)
-      where
-        right : (c : Bool) → (c && false) ≡ false
-        right true = refl
-        right false = refl
+    swap true true c = sym (and-true c)
+    swap true false c = sym (and-false c)
     swap false b c = refl
 
 -- with 1 for its second number a pair goes up where its first number does
@@ -52,12 +45,9 @@ with-one most low room part some =
     next-pair most low room (first_half part ++ codes ":1") []
     ∙ ap (λ half. (is_next_first low room (first_half part ++ codes ":1") && is_from_one_part most half) && true) halves.1
     ∙ ap (λ b. (is_next_first low room (first_half part ++ codes ":1") && b) && true) (le-leb 1 most (omega arith))
-    ∙ twice (is_next_first low room (first_half part ++ codes ":1"))
+    ∙ and-true (is_next_first low room (first_half part ++ codes ":1") && true)
+    ∙ and-true (is_next_first low room (first_half part ++ codes ":1"))
     ∙ ap (λ half. is_index_part half && (nat_lt 0 room && nat_le low (number_of half))) halves.0
-  where
-    twice : (a : Bool) → ((a && true) && true) ≡ a
-    twice true = refl
-    twice false = refl
 
 pub pairs-start : (most room : ℕ) (line : List ℕ) → KeepsTo (are_few_pairs most room) (go_up most 0 room) line line
 pairs-start most room line = record { before = []; parts = refl; same = λ ps. sym (go_up-start most room ps); size = omega arith }
@@ -106,15 +96,11 @@ pairs-room most line at h = record {
   place = h.place ∙ ap (λ b. length (spaced [] h.before) + 1 + cond b (length h.part - length (second_half h.part)) 0) (fits (first_half h.part ++ codes ":1"));
 }
   where
-    right : (b : Bool) → (b && true) ≡ b
-    right true = refl
-    right false = refl
-
     fits : (part : List ℕ) → are_few_pairs most (length line) (h.before ++ part ∷ []) ≡ are_pair_parts most (h.before ++ part ∷ [])
     fits part =
         let few : length (h.before ++ part ∷ []) ≤ length line =
         omega (arith, few-parts line, ap length h.parts, length-append h.before (h.part ∷ h.after), length-append h.before (part ∷ [])) in
-        ap (λ b. are_pair_parts most (h.before ++ part ∷ []) && b) (le-leb (length (h.before ++ part ∷ [])) (length line) few) ∙ right (are_pair_parts most (h.before ++ part ∷ []))
+        ap (λ b. are_pair_parts most (h.before ++ part ∷ []) && b) (le-leb (length (h.before ++ part ∷ [])) (length line) few) ∙ and-true (are_pair_parts most (h.before ++ part ∷ []))
 
     never : (more : List (List ℕ)) → are_pair_parts most (h.before ++ h.part ∷ more) ≡ false
     never more = elim (cases_Bool (are_pair_parts most (h.before ++ h.part ∷ more))) [

@@ -1,6 +1,7 @@
 -- The longest front of one part: digits, a step, a pair, a label.
 use Rattle.std.proofs.Common.{inl, inr, arith, codes, ◌≡◌, ℕ, ◌+◌, ◌-◌, ◌<◌, ◌≤◌, zero, suc, Bool, true, false, cond, ◌&&◌, ◌||◌, not, ◌==◌, nat_lt, slice_index, get_or, List, [], ◌∷◌, ◌++◌, length, take, drop, refl, sym, ap, ◌∙◌, subst, append_assoc}
 use Rattle.std.proofs.lemmas.Bool.{and_parts, and_from, cases_Bool, lt-ltb, eqb-true, eq-eqb, ne_eqb}
+use Rattle.std.proofs.Math.Bool.{and-true, and-false, or-true}
 use Rattle.std.proofs.lemmas.Bool.Decides.{nat_tests}
 use Rattle.std.proofs.lemmas.List.{length-append}
 use Rattle.std.proofs.lemmas.List.Folds.{list_all-append}
@@ -10,6 +11,7 @@ use Rattle.std.specs.List.{list_all, prefix_len, position_or_len}
 use Rattle.wrp_proof.specs.Fronts.{IsLongestFront}
 use Rattle.wrp_proof.specs.Parts.{is_digits, is_sign, sign_of, street_part, is_step_shape, is_colon, first_half, second_half, is_pair_shape}
 use Rattle.wrp_proof.specs.Shapes.{is_slash, is_label}
+use Rattle.wrp_proof.proofs.Positions.{before-more, after-more}
 use Rattle.wrp_proof.proofs.Fronts.{front-at, front-same, front-cons, front-end, front-stop}
 
 -- the number of digits with which a text begins
@@ -117,14 +119,6 @@ step-text-front (b ∷ text) = elim (cases_Bool (is_ascii_digit b)) [
 ]
 
 -- the same shape, read from its end
-and-true : (a : Bool) → a ≡ (a && true)
-and-true true = refl
-and-true false = refl
-
-and-false : (a : Bool) → (a && false) ≡ false
-and-false true = refl
-and-false false = refl
-
 and-swap : (a b c : Bool) → (a && (b && c)) ≡ (b && (a && c))
 and-swap true true c = refl
 and-swap true false c = refl
@@ -141,7 +135,7 @@ street-more : (b c : ℕ) (t : List ℕ) → street_part (b ∷ c ∷ t) ≡ b �
 street-more b c t = ap (λ k. take k (b ∷ c ∷ t)) (size-more b c t)
 
 step-end-same : (b : ℕ) (t : List ℕ) → is_step_end (b ∷ t) ≡ (is_sign (sign_of (b ∷ t)) && list_all is_ascii_digit (street_part (b ∷ t)))
-step-end-same b [] = and-true (is_sign b)
+step-end-same b [] = sym (and-true (is_sign b))
 step-end-same b (c ∷ t) =
     ap (λ x. is_ascii_digit b && x) (step-end-same c t)
     ∙ and-swap (is_ascii_digit b) (is_sign (sign_of (c ∷ t))) (list_all is_ascii_digit (street_part (c ∷ t)))
@@ -203,18 +197,6 @@ pair-text-front (b ∷ text) = elim (cases_Bool (is_ascii_digit b)) [
   | inr other ↦ front-at is_pair_text (b ∷ text) 0 (pair_front (b ∷ text)) (front-stop is_pair_text (48 ∷ 58 ∷ 48 ∷ []) b text refl (λ t. ap (λ d. d && is_pair_end t) other)) (rw other refl)
 ]
 
-place-more : (b : ℕ) (t : List ℕ) → is_colon b ≡ false → position_or_len is_colon (b ∷ t) ≡ suc (position_or_len is_colon t)
-place-more b t other = ap (λ c. cond (not c) (1 + position_or_len is_colon t) 0) other ∙ omega arith
-
-pub first-more : (b : ℕ) (t : List ℕ) → is_colon b ≡ false → first_half (b ∷ t) ≡ b ∷ first_half t
-first-more b t other = ap (λ k. take k (b ∷ t)) (place-more b t other)
-
-pub second-more : (b : ℕ) (t : List ℕ) → is_colon b ≡ false → second_half (b ∷ t) ≡ second_half t
-second-more b t other =
-    let k : ℕ = position_or_len is_colon t in
-    let size : position_or_len is_colon (b ∷ t) + 1 ≡ suc (k + 1) = omega (arith, place-more b t other) in
-    ap (λ n. drop n (b ∷ t)) size
-
 pair-end-same : (t : List ℕ) → is_pair_end t ≡ (list_all is_ascii_digit (first_half t) && is_digits (second_half t))
 pair-end-same [] = refl
 pair-end-same (b ∷ t) = elim (cases_Bool (is_colon b)) [
@@ -223,8 +205,8 @@ pair-end-same (b ∷ t) = elim (cases_Bool (is_colon b)) [
       ap (λ c. cond (is_ascii_digit b) (is_pair_end t) (c && is_digits t)) other
       ∙ ap (λ x. cond (is_ascii_digit b) x false) (pair-end-same t)
       ∙ chosen (is_ascii_digit b) (list_all is_ascii_digit (first_half t)) (is_digits (second_half t))
-      ∙ ap (λ half. list_all is_ascii_digit half && is_digits (second_half t)) (sym (first-more b t other))
-      ∙ ap (λ half. list_all is_ascii_digit (first_half (b ∷ t)) && is_digits half) (sym (second-more b t other))
+      ∙ ap (λ half. list_all is_ascii_digit half && is_digits (second_half t)) (sym (before-more is_colon b t other))
+      ∙ ap (λ half. list_all is_ascii_digit (first_half (b ∷ t)) && is_digits half) (sym (after-more is_colon b t other))
 ]
   where
     chosen : (a x y : Bool) → cond a (x && y) false ≡ ((a && x) && y)
@@ -239,8 +221,8 @@ pair-same (b ∷ t) = elim (cases_Bool (is_colon b)) [
       ap (λ x. is_ascii_digit b && x) (pair-end-same t)
       ∙ joined (is_ascii_digit b) (list_all is_ascii_digit (first_half t)) (is_digits (second_half t))
       ∙ ap (λ x. x && is_digits (second_half t)) (sym (digits-more b (first_half t)))
-      ∙ ap (λ half. is_digits half && is_digits (second_half t)) (sym (first-more b t other))
-      ∙ ap (λ half. is_digits (first_half (b ∷ t)) && is_digits half) (sym (second-more b t other))
+      ∙ ap (λ half. is_digits half && is_digits (second_half t)) (sym (before-more is_colon b t other))
+      ∙ ap (λ half. is_digits (first_half (b ∷ t)) && is_digits half) (sym (after-more is_colon b t other))
 ]
   where
     joined : (a x y : Bool) → (a && (x && y)) ≡ ((a && x) && y)
@@ -255,10 +237,6 @@ pair-front part = front-same is_pair_text is_pair_shape part (pair_front part) p
 abbrev pub label_front : List ℕ → ℕ
 label_front [] = 0
 label_front (b ∷ text) = cond (b == 47) 1 (digits_front (b ∷ text))
-
-or-true : (a : Bool) → (a || true) ≡ true
-or-true true = refl
-or-true false = refl
 
 pub label-front : (part : List ℕ) → IsLongestFront is_label part (label_front part)
 label-front [] = front-end is_label (48 ∷ []) refl

@@ -6,6 +6,7 @@ use Rattle.std.specs.List.{list_all, position_or_len, before_first, after_first}
 use Rattle.wrp_proof.specs.Fronts.{IsLongestFront}
 use Rattle.wrp_proof.specs.Parts.{is_digits, is_space}
 use Rattle.wrp_proof.specs.Ends.{are_two}
+use Rattle.wrp_proof.proofs.Positions.{before-more, after-more}
 use Rattle.wrp_proof.proofs.Fronts.{front-at, front-same, front-cons, front-end, front-stop}
 use Rattle.wrp_proof.proofs.PartFronts.{digits_front, digits-front, digits-more, digits-one}
 use Rattle.wrp_proof.proofs.PartPlaces.{front-more, front-none}
@@ -102,18 +103,6 @@ two-not (b ∷ t) d same never = elim (cases_Bool (is_ascii_digit b)) [
   | inr other ↦ (same ∙ front-none b t other) ∙ sym (ap (λ x. cond x (suc (two_end_front t)) 0) other)
 ]
 
-place-more : (b : ℕ) (t : List ℕ) → is_space b ≡ false → position_or_len is_space (b ∷ t) ≡ suc (position_or_len is_space t)
-place-more b t other = ap (λ c. cond (not c) (1 + position_or_len is_space t) 0) other ∙ omega arith
-
-first-more : (b : ℕ) (t : List ℕ) → is_space b ≡ false → before_first is_space (b ∷ t) ≡ b ∷ before_first is_space t
-first-more b t other = ap (λ k. take k (b ∷ t)) (place-more b t other)
-
-second-more : (b : ℕ) (t : List ℕ) → is_space b ≡ false → after_first is_space (b ∷ t) ≡ after_first is_space t
-second-more b t other =
-    let k : ℕ = position_or_len is_space t in
-    let size : position_or_len is_space (b ∷ t) + 1 ≡ suc (k + 1) = omega (arith, place-more b t other) in
-    ap (λ n. drop n (b ∷ t)) size
-
 two-end-same : (t : List ℕ) → is_two_end t ≡ (list_all is_ascii_digit (before_first is_space t) && is_digits (after_first is_space t))
 two-end-same [] = refl
 two-end-same (b ∷ t) = elim (cases_Bool (is_space b)) [
@@ -122,8 +111,8 @@ two-end-same (b ∷ t) = elim (cases_Bool (is_space b)) [
       ap (λ c. cond (is_ascii_digit b) (is_two_end t) (c && is_digits t)) other
       ∙ ap (λ x. cond (is_ascii_digit b) x false) (two-end-same t)
       ∙ chosen (is_ascii_digit b) (list_all is_ascii_digit (before_first is_space t)) (is_digits (after_first is_space t))
-      ∙ ap (λ half. list_all is_ascii_digit half && is_digits (after_first is_space t)) (sym (first-more b t other))
-      ∙ ap (λ half. list_all is_ascii_digit (before_first is_space (b ∷ t)) && is_digits half) (sym (second-more b t other))
+      ∙ ap (λ half. list_all is_ascii_digit half && is_digits (after_first is_space t)) (sym (before-more is_space b t other))
+      ∙ ap (λ half. list_all is_ascii_digit (before_first is_space (b ∷ t)) && is_digits half) (sym (after-more is_space b t other))
 ]
   where
     chosen : (a x y : Bool) → cond a (x && y) false ≡ ((a && x) && y)
@@ -138,8 +127,8 @@ two-same (b ∷ t) = elim (cases_Bool (is_space b)) [
       ap (λ x. is_ascii_digit b && x) (two-end-same t)
       ∙ joined (is_ascii_digit b) (list_all is_ascii_digit (before_first is_space t)) (is_digits (after_first is_space t))
       ∙ ap (λ x. x && is_digits (after_first is_space t)) (sym (digits-more b (before_first is_space t)))
-      ∙ ap (λ half. is_digits half && is_digits (after_first is_space t)) (sym (first-more b t other))
-      ∙ ap (λ half. is_digits (before_first is_space (b ∷ t)) && is_digits half) (sym (second-more b t other))
+      ∙ ap (λ half. is_digits half && is_digits (after_first is_space t)) (sym (before-more is_space b t other))
+      ∙ ap (λ half. is_digits (before_first is_space (b ∷ t)) && is_digits half) (sym (after-more is_space b t other))
 ]
   where
     joined : (a x y : Bool) → (a && (x && y)) ≡ ((a && x) && y)

@@ -14,7 +14,7 @@ abbrev pub keeps_then : (List ℕ → Bool) → (List (List ℕ) → Bool) → L
 keeps_then is_right keep_rules [] = true
 keeps_then is_right keep_rules (part ∷ parts) = is_right part && keep_rules parts
 
--- numbers, and perhaps a slash among them
+-- numbers, and a slash among them where the shape has one
 abbrev pub are_labels : List (List ℕ) → Bool
 are_labels parts = list_all (λ part. is_slash part || is_index_part part) parts
 
@@ -50,6 +50,10 @@ pub record IsFirstBad (keep_rules : List (List ℕ) → Bool) (left : List ℕ) 
   pub good : keep_rules before ≡ true
   pub bad : (more : List (List ℕ)) → keep_rules (before ++ part ∷ more) ≡ false
   pub place : at ≡ length (spaced [] before) + 1 + place_in keep_rules before part
+
+-- where the rules are broken, the first number that breaks one stands at this place
+abbrev pub IsPlaceOfBad : (List (List ℕ) → Bool) → List ℕ → ℕ → Type 0
+IsPlaceOfBad keep_rules left at = keep_rules (parts_of left) ≡ false → IsFirstBad keep_rules left at
 
 -- the first number of a line that breaks a rule of its letter stands at this place
 pub record IsFirstBadNumber (line : List ℕ) (at : ℕ) : Type 0 where

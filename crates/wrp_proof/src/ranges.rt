@@ -2,7 +2,7 @@
 ghost use Rattle.std.specs.Prelude.{◌≡◌, ◌<◌, ◌≤◌, ◌+◌, ◌-◌, ◌^◌, ◌&&◌, if◌then◌else◌, true, false, length, IfOk, IfErr};
 ghost use Rattle.std.specs.List.{list_all};
 ghost use Rattle.wrp_proof.specs.Parts.{parts_of, first_half, second_half, number_of, is_step, is_from_one_part, are_set_parts};
-ghost use Rattle.wrp_proof.specs.Numbers.{keeps_then, is_right, keep_rules, are_labels, are_few_pairs, is_next_first, keeps_rules, IsFirstBad};
+ghost use Rattle.wrp_proof.specs.Numbers.{keeps_then, is_right, keep_rules, are_labels, are_few_pairs, is_next_first, keeps_rules, IsPlaceOfBad};
 
 use crate::labels::is_slash_text;
 use crate::numbers::next_low;
@@ -40,29 +40,23 @@ enum Others {
 /// `left`.
 pub(crate) fn number_place(letter: u8, left: &[u8]) -> usize
     ensures within { result ≤ length left.now }
-    ensures first { keeps_rules letter (parts_of left.now) ≡ false → IsFirstBad (keeps_rules letter) left.now result }
+    ensures first { IsPlaceOfBad (keeps_rules letter) left.now result }
 {
     let count = Range::Count;
     let index = Range::Index;
+    let divisor = Range::FromOne { most: 1 << 20 };
+    let bound_den = Range::FromOne { most: 1 << 40 };
+    let point_den = Range::FromOne { most: 1 << 60 };
     match letter {
         b't' => after_one(left, count, Others::Steps),
         b'c' => after_two(left, index, index, Others::Set),
         b'o' => others_number(left, Others::Set),
-        b'r' => after_one(
-            left,
-            Range::FromOne { most: 1 << 20 },
-            Others::RoundMultipliers,
-        ),
+        b'r' => after_one(left, divisor, Others::RoundMultipliers),
         b'k' => after_one(left, index, Others::Indexes),
-        b'b' => after_two(
-            left,
-            count,
-            Range::FromOne { most: 1 << 40 },
-            Others::Multipliers,
-        ),
+        b'b' => after_two(left, count, bound_den, Others::Multipliers),
         b'e' => after_one(left, count, Others::Multipliers),
         b'a' => after_three(left, count, index, index, Others::Set),
-        b'p' => after_two(left, count, Range::FromOne { most: 1 << 60 }, Others::Pairs),
+        b'p' => after_two(left, count, point_den, Others::Pairs),
         b'z' => after_one(left, count, Others::Indexes),
         b's' => after_three(left, count, index, index, Others::Indexes),
         _ => others_number(left, Others::Indexes),
@@ -72,7 +66,7 @@ pub(crate) fn number_place(letter: u8, left: &[u8]) -> usize
 /// The place of the first number that breaks a rule, among three numbers and others.
 fn after_three(left: &[u8], one: Range, two: Range, three: Range, others: Others) -> usize
     ensures within { result ≤ length left.now }
-    ensures first { (keeps_then (is_right one) (keeps_then (is_right two) (keeps_then (is_right three) (keep_rules others)))) (parts_of left.now) ≡ false → IsFirstBad (keeps_then (is_right one) (keeps_then (is_right two) (keeps_then (is_right three) (keep_rules others)))) left.now result }
+    ensures first { IsPlaceOfBad (keeps_then (is_right one) (keeps_then (is_right two) (keeps_then (is_right three) (keep_rules others)))) left.now result }
 {
     let Some((number, behind)) = split_part(left) else {
         return 0;
@@ -86,7 +80,7 @@ fn after_three(left: &[u8], one: Range, two: Range, three: Range, others: Others
 /// The place of the first number that breaks a rule, among two numbers and others.
 fn after_two(left: &[u8], one: Range, two: Range, others: Others) -> usize
     ensures within { result ≤ length left.now }
-    ensures first { (keeps_then (is_right one) (keeps_then (is_right two) (keep_rules others))) (parts_of left.now) ≡ false → IsFirstBad (keeps_then (is_right one) (keeps_then (is_right two) (keep_rules others))) left.now result }
+    ensures first { IsPlaceOfBad (keeps_then (is_right one) (keeps_then (is_right two) (keep_rules others))) left.now result }
 {
     let Some((number, behind)) = split_part(left) else {
         return 0;
@@ -100,7 +94,7 @@ fn after_two(left: &[u8], one: Range, two: Range, others: Others) -> usize
 /// The place of the first number that breaks a rule, among a number and others.
 fn after_one(left: &[u8], one: Range, others: Others) -> usize
     ensures within { result ≤ length left.now }
-    ensures first { (keeps_then (is_right one) (keep_rules others)) (parts_of left.now) ≡ false → IsFirstBad (keeps_then (is_right one) (keep_rules others)) left.now result }
+    ensures first { IsPlaceOfBad (keeps_then (is_right one) (keep_rules others)) left.now result }
 {
     let Some((number, behind)) = split_part(left) else {
         return 0;
@@ -125,7 +119,7 @@ fn is_within(part: &[u8], range: Range) -> bool
 /// The place of the first number that breaks a rule, among what follows the first numbers.
 fn others_number(left: &[u8], others: Others) -> usize
     ensures within { result ≤ length left.now }
-    ensures first { (keep_rules others) (parts_of left.now) ≡ false → IsFirstBad (keep_rules others) left.now result }
+    ensures first { IsPlaceOfBad (keep_rules others) left.now result }
 {
     match others {
         Others::Steps => steps_number(left),
@@ -140,7 +134,7 @@ fn others_number(left: &[u8], others: Others) -> usize
 /// The place of the first number that breaks a rule, among numbers and perhaps a slash.
 fn indexes_number(line: &[u8]) -> usize
     ensures within { result ≤ length line.now }
-    ensures first { (are_labels) (parts_of line.now) ≡ false → IsFirstBad (are_labels) line.now result }
+    ensures first { IsPlaceOfBad are_labels line.now result }
 {
     let mut left = line;
     while let Some((part, others)) = split_part(left) {
@@ -155,7 +149,7 @@ fn indexes_number(line: &[u8]) -> usize
 /// The place of the first number that breaks a rule, among ascending numbers.
 fn set_number(line: &[u8]) -> usize
     ensures within { result ≤ length line.now }
-    ensures first { (are_set_parts) (parts_of line.now) ≡ false → IsFirstBad (are_set_parts) line.now result }
+    ensures first { IsPlaceOfBad are_set_parts line.now result }
 {
     let mut left = line;
     let mut low = 0;
@@ -172,7 +166,7 @@ fn set_number(line: &[u8]) -> usize
 /// The place of the first number of steps that breaks a rule.
 fn steps_number(line: &[u8]) -> usize
     ensures within { result ≤ length line.now }
-    ensures first { (list_all is_step) (parts_of line.now) ≡ false → IsFirstBad (list_all is_step) line.now result }
+    ensures first { IsPlaceOfBad (list_all is_step) line.now result }
 {
     let mut left = line;
     while let Some((part, others)) = split_part(left) {
@@ -188,7 +182,7 @@ fn steps_number(line: &[u8]) -> usize
 fn pairs_number(line: &[u8], most: u128, room: usize) -> usize
     requires { most < 2 ^ 99 }
     ensures within { result ≤ length line.now }
-    ensures first { 0 < most → are_few_pairs most room (parts_of line.now) ≡ false → IsFirstBad (are_few_pairs most room) line.now result }
+    ensures first { 0 < most → IsPlaceOfBad (are_few_pairs most room) line.now result }
 {
     let mut left = line;
     let mut room = room;
