@@ -21,6 +21,7 @@ pub mod EndNumbers
 pub mod FirstNumbers
 pub mod PairNumbers
 pub mod NumberLaws
+pub mod OneFault
 pub mod Records
 pub mod LineLaws
 pub mod Narrow

@@ -3,6 +3,7 @@ ghost use Rattle.std.specs.Prelude.{codes, ℕ, slice_index, ◌≡◌, ◌∷�
 ghost use Rattle.std.specs.List.{slice_split};
 ghost use Rattle.std.specs.Str.{bytes_eq};
 ghost use Rattle.wrp_proof.specs.declared.record.End.{End};
+ghost use Rattle.wrp_proof.specs.declared.fault.LineFault.{LineFault};
 ghost use Rattle.wrp_proof.specs.Parts.{parts_of, is_space};
 ghost use Rattle.wrp_proof.specs.EndFaults.{IsFirstBadCost};
 ghost use Rattle.wrp_proof.specs.Fronts.{IsLongestFront};
@@ -27,6 +28,8 @@ pub fn read_end(line: &[u8]) -> Result<End, LineFault>
     ensures spelled { IfOk result (λ end. spelled_end line.now ≡ Some end) }
     ensures short { IfOk result (λ end. length line.now ≤ 2 ^ 28) }
     ensures fault { IfErr result (λ fault. IsEndFault line.now fault) }
+    // No other fault is right, and none at another place.
+    ensures one { IfErr result (λ fault. (other : LineFault) → IsEndFault line.now other → fault ≡ other) }
     // No end is spelled by a line that is refused, unless it is long.
     ensures only { IfErr result (λ fault. (end : End) → IsEndLineOf end line.now → length line.now ≤ 2 ^ 28 → ⊥) }
     ensures none { IfErr result (λ fault. length line.now ≤ 2 ^ 28 → spelled_end line.now ≡ None) }
