@@ -1,20 +1,19 @@
 -- The first number of an end line that is out of range.
-use Rattle.std.proofs.Common.{is_some, not, inl, inr, arith, codes, Some, None, Option, ◌≡◌, ℕ, ◌+◌, ◌<◌, suc, Bool, true, false, cond, ◌&&◌, ◌||◌, ◌==◌, List, [], ◌∷◌, ◌++◌, length, take, drop, refl, sym, ap, ◌∙◌, subst, append_assoc}
-use Rattle.std.proofs.lemmas.Bool.{and_parts, cases_Bool, eqb-true, false≢true, true≢false}
-use Rattle.std.proofs.lemmas.List.{append-nil, length-append, take_at}
+use Rattle.std.proofs.Common.{arith, codes, Some, None, ◌≡◌, ℕ, ◌+◌, ◌<◌, suc, Bool, true, false, cond, ◌&&◌, ◌||◌, ◌==◌, List, [], ◌∷◌, ◌++◌, length, drop, refl, sym, ap, ◌∙◌}
+use Rattle.std.proofs.lemmas.Bool.{and_parts, false≢true}
+use Rattle.std.proofs.lemmas.List.{length-append}
 use Rattle.std.specs.Char.{is_ascii_digit}
 use Rattle.std.specs.List.{list_all, slice_split}
-use Rattle.wrp_proof.specs.declared.record.End.{End}
 use Rattle.wrp_proof.specs.declared.record.End.TheVariants.{Optimal, Infeasible, Unfinished}
 use Rattle.wrp_proof.specs.EndFaults.{IsFirstBadCost}
-use Rattle.wrp_proof.specs.Ends.{has_end_shape, end_in, optimal_in, unfinished_in}
+use Rattle.wrp_proof.specs.Ends.{has_end_shape, end_in, optimal_in}
 use Rattle.wrp_proof.specs.Parts.{is_space, is_digits, is_count_part, number_of}
 use Rattle.wrp_proof.proofs.Guards.{guard-none}
 use Rattle.wrp_proof.proofs.EndFronts.{behind, shared_front, full, end-same, alone, is_empty, is_optimal, is_unfinished, is_infeasible, is_end}
 use Rattle.wrp_proof.proofs.PartFronts.{digits_front, digits-one}
 use Rattle.wrp_proof.proofs.PartPlaces.{front-more}
 use Rattle.wrp_proof.proofs.Spacing.{digits-solid, solid_cut}
-use Rattle.wrp_proof.proofs.TwoNumbers.{is_two_text, AreTwoNumbers, text-two}
+use Rattle.wrp_proof.proofs.TwoNumbers.{is_two_text, text-two}
 
 or-false : (a : Bool) → (a || false) ≡ true → a ≡ true
 or-false true h = refl
@@ -57,8 +56,8 @@ pub record IsUnfinished (line : List ℕ) : Type 0 where
 pub unfinished-numbers : (line : List ℕ) → has_end_shape line ≡ true → end_in (slice_split is_space line) ≡ None → shared_front (codes "end unfinished ") line ≡ 15 → IsUnfinished line
 unfinished-numbers line shape none h =
     let e = full (codes "end unfinished ") line h in
-    let two : is_two_text (drop 15 line) ≡ true = or-false (is_two_text (drop 15 line)) (sym (ap is_end e) ∙ end-same line ∙ shape) in
-    let n = text-two (drop 15 line) two in
+    let two : is_two_text 32 (drop 15 line) ≡ true = or-false (is_two_text 32 (drop 15 line)) (sym (ap is_end e) ∙ end-same line ∙ shape) in
+    let n = text-two 32 (drop 15 line) two in
     let parts : slice_split is_space line ≡ codes "end" ∷ codes "unfinished" ∷ n.one ∷ n.two ∷ [] =
     ap (slice_split is_space) (e ∙ ap (λ x. codes "end unfinished " ++ x) n.same)
     ∙ ap (λ ps. codes "end" ∷ codes "unfinished" ∷ ps) (solid_cut n.one (32 ∷ n.two) (digits-solid n.one (digits-one n.one n.first)) refl)
@@ -107,7 +106,7 @@ behind-shared (w ∷ word) shape (b ∷ text) h =
 pub no-number : (line : List ℕ) → has_end_shape line ≡ true → end_in (slice_split is_space line) ≡ None → shared_front (codes "end optimal ") line < 12 → shared_front (codes "end unfinished ") line < 15 → ⊥
 no-number line shape none o u = three (is_optimal line) (is_unfinished line) (is_infeasible line) (end-same line ∙ shape)
     (λ h. omega (arith, behind-shared (codes "end optimal ") is_digits line h))
-    (λ h. omega (arith, behind-shared (codes "end unfinished ") is_two_text line h))
+    (λ h. omega (arith, behind-shared (codes "end unfinished ") (is_two_text 32) line h))
     (λ h. last (drop 14 line) (full (codes "end infeasible") line (behind-shared (codes "end infeasible") is_empty line h)) h)
   where
     three : (a b c : Bool) → (a || (b || c)) ≡ true → (a ≡ true → ⊥) → (b ≡ true → ⊥) → (c ≡ true → ⊥) → ⊥

@@ -6,16 +6,15 @@ use Rattle.wrp_proof.specs.declared.ranges.Range.{Range}
 use Rattle.wrp_proof.specs.declared.ranges.Range.TheVariants.{Count, Index, FromOne}
 use Rattle.wrp_proof.specs.Rules.{is_count, is_index, is_from_one}
 use Rattle.wrp_proof.specs.Shapes.{is_slash}
-use Rattle.std.proofs.Common.{Option, Some, None, is_some, not, slice_index, ◌==◌, inl, inr, arith, codes, ◌≡◌, ℕ, ◌+◌, ◌-◌, ◌≤◌, ◌<◌, Bool, true, false, cond, ◌&&◌, ◌||◌, nat_le, nat_lt, List, [], ◌∷◌, ◌++◌, length, refl, sym, ap, ◌∙◌, subst, append_assoc}
+use Rattle.std.proofs.Common.{not, slice_index, ◌==◌, arith, codes, ◌≡◌, ℕ, ◌+◌, ◌-◌, Bool, true, false, cond, ◌&&◌, ◌||◌, nat_le, nat_lt, List, [], ◌∷◌, ◌++◌, length, refl, sym, ap, ◌∙◌, append_assoc}
 use Rattle.std.proofs.Math.Bool.{and-false}
-use Rattle.std.proofs.lemmas.Bool.{and_parts, and_from, cases_Bool, false≢true, true≢false}
+use Rattle.std.proofs.lemmas.Bool.{and_from}
 use Rattle.std.proofs.lemmas.List.{append-nil, length-append}
 use Rattle.std.specs.List.{list_all}
-use Rattle.wrp_proof.specs.Numbers.{keeps_then, is_right, place_in, IsFirstBad}
+use Rattle.wrp_proof.specs.Numbers.{keeps_then, is_right, IsFirstBad}
 use Rattle.wrp_proof.specs.Lines.{spaced}
 use Rattle.wrp_proof.specs.Parts.{parts_of, first_half, second_half, is_number, is_index_part, number_of, sign_of, is_sign, is_step, street_part}
 use Rattle.wrp_proof.proofs.PartFronts.{sign-more}
-use Rattle.wrp_proof.proofs.Fronts.{IsCut}
 use Rattle.wrp_proof.proofs.LabelLists.{spread-append}
 use Rattle.wrp_proof.proofs.Spacing.{spread}
 

@@ -1,7 +1,7 @@
 -- The first number of pairs that breaks a rule.
 use Rattle.std.proofs.Common.{inl, inr, arith, codes, ◌≡◌, ℕ, ◌+◌, ◌-◌, ◌<◌, ◌≤◌, Bool, true, false, cond, ◌&&◌, nat_lt, nat_le, List, [], ◌∷◌, ◌++◌, length, refl, sym, ap, ◌∙◌, subst, append_assoc}
 use Rattle.std.proofs.Math.Bool.{and-true, and-false}
-use Rattle.std.proofs.lemmas.Bool.{and_parts, and_from, cases_Bool, eqb-true, leb-true, le-leb, false≢true}
+use Rattle.std.proofs.lemmas.Bool.{and_parts, and_from, cases_Bool, eqb-true, le-leb, false≢true}
 use Rattle.std.proofs.lemmas.List.{length-append}
 use Rattle.wrp_proof.specs.Lines.{spaced}
 use Rattle.wrp_proof.specs.Numbers.{IsFirstBad, are_few_pairs, is_next_first}

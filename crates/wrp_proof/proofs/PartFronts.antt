@@ -1,5 +1,5 @@
 -- The longest front of one part: digits, a step, a pair, a label.
-use Rattle.std.proofs.Common.{inl, inr, arith, codes, ◌≡◌, ℕ, ◌+◌, ◌-◌, ◌<◌, ◌≤◌, zero, suc, Bool, true, false, cond, ◌&&◌, ◌||◌, not, ◌==◌, nat_lt, slice_index, get_or, List, [], ◌∷◌, ◌++◌, length, take, drop, refl, sym, ap, ◌∙◌, subst, append_assoc}
+use Rattle.std.proofs.Common.{inl, inr, arith, ◌≡◌, ℕ, ◌-◌, ◌<◌, ◌≤◌, zero, suc, Bool, true, false, cond, ◌&&◌, ◌||◌, ◌==◌, nat_lt, slice_index, List, [], ◌∷◌, ◌++◌, length, take, refl, sym, ap, ◌∙◌, subst, append_assoc}
 use Rattle.std.proofs.lemmas.Bool.{and_parts, and_from, cases_Bool, lt-ltb, eqb-true, eq-eqb, ne_eqb}
 use Rattle.std.proofs.Math.Bool.{and-true, and-false, or-true}
 use Rattle.std.proofs.lemmas.Bool.Decides.{nat_tests}
@@ -7,11 +7,10 @@ use Rattle.std.proofs.lemmas.List.{length-append}
 use Rattle.std.proofs.lemmas.List.Folds.{list_all-append}
 use Rattle.std.specs.Char.{is_ascii_digit}
 use Rattle.std.specs.Str.{bytes_eq}
-use Rattle.std.specs.List.{list_all, prefix_len, position_or_len}
+use Rattle.std.specs.List.{list_all, prefix_len}
 use Rattle.wrp_proof.specs.Fronts.{IsLongestFront}
-use Rattle.wrp_proof.specs.Parts.{is_digits, is_sign, sign_of, street_part, is_step_shape, is_colon, first_half, second_half, is_pair_shape}
+use Rattle.wrp_proof.specs.Parts.{is_digits, is_sign, sign_of, street_part, is_step_shape}
 use Rattle.wrp_proof.specs.Shapes.{is_slash, is_label}
-use Rattle.wrp_proof.proofs.Positions.{before-more, after-more}
 use Rattle.wrp_proof.proofs.Fronts.{front-at, front-same, front-cons, front-end, front-stop}
 
 -- the number of digits with which a text begins
@@ -154,83 +153,6 @@ step-same (b ∷ c ∷ t) =
 
 pub step-front : (part : List ℕ) → IsLongestFront is_step_shape part (step_front part)
 step-front part = front-same is_step_text is_step_shape part (step_front part) step-same (step-text-front part)
-
--- ---- pairs
-
--- digits, a colon, and one or more digits
-abbrev pub is_pair_end : List ℕ → Bool
-is_pair_end [] = false
-is_pair_end (b ∷ text) = cond (is_ascii_digit b) (is_pair_end text) (is_colon b && is_digits text)
-
-abbrev pub is_pair_text : List ℕ → Bool
-is_pair_text [] = false
-is_pair_text (b ∷ text) = is_ascii_digit b && is_pair_end text
-
-abbrev pub pair_end_front : List ℕ → ℕ
-pair_end_front [] = 0
-pair_end_front (b ∷ text) = cond (is_ascii_digit b) (suc (pair_end_front text)) (cond (is_colon b) (suc (digits_front text)) 0)
-
-abbrev pub pair_front : List ℕ → ℕ
-pair_front [] = 0
-pair_front (b ∷ text) = cond (is_ascii_digit b) (suc (pair_end_front text)) 0
-
-pair-end-front : (text : List ℕ) → IsLongestFront is_pair_end text (pair_end_front text)
-pair-end-front [] = front-end is_pair_end (58 ∷ 48 ∷ []) refl
-pair-end-front (b ∷ text) = elim (cases_Bool (is_ascii_digit b)) [
-  | inl here ↦ front-at is_pair_end (b ∷ text) (suc (pair_end_front text)) (pair_end_front (b ∷ text))
-      (front-cons is_pair_end b text (pair_end_front text) (front-same is_pair_end (λ t. is_pair_end (b ∷ t)) text (pair_end_front text) (λ t. sym (rw here refl)) (pair-end-front text)))
-      (rw here refl)
-  | inr other ↦ elim (cases_Bool (is_colon b)) [
-    | inl colon ↦ front-at is_pair_end (b ∷ text) (suc (digits_front text)) (pair_end_front (b ∷ text))
-        (front-cons is_pair_end b text (digits_front text) (front-same is_digits (λ t. is_pair_end (b ∷ t)) text (digits_front text) (λ t. sym (rw (other, colon) refl)) (digits-front text)))
-        (rw (other, colon) refl)
-    | inr neither ↦ front-at is_pair_end (b ∷ text) 0 (pair_end_front (b ∷ text)) (front-stop is_pair_end (58 ∷ 48 ∷ []) b text refl (λ t. rw (other, neither) refl)) (rw (other, neither) refl)
-  ]
-]
-
-pair-text-front : (text : List ℕ) → IsLongestFront is_pair_text text (pair_front text)
-pair-text-front [] = front-end is_pair_text (48 ∷ 58 ∷ 48 ∷ []) refl
-pair-text-front (b ∷ text) = elim (cases_Bool (is_ascii_digit b)) [
-  | inl here ↦ front-at is_pair_text (b ∷ text) (suc (pair_end_front text)) (pair_front (b ∷ text))
-      (front-cons is_pair_text b text (pair_end_front text) (front-same is_pair_end (λ t. is_pair_text (b ∷ t)) text (pair_end_front text) (λ t. sym (ap (λ d. d && is_pair_end t) here)) (pair-end-front text)))
-      (rw here refl)
-  | inr other ↦ front-at is_pair_text (b ∷ text) 0 (pair_front (b ∷ text)) (front-stop is_pair_text (48 ∷ 58 ∷ 48 ∷ []) b text refl (λ t. ap (λ d. d && is_pair_end t) other)) (rw other refl)
-]
-
-pair-end-same : (t : List ℕ) → is_pair_end t ≡ (list_all is_ascii_digit (first_half t) && is_digits (second_half t))
-pair-end-same [] = refl
-pair-end-same (b ∷ t) = elim (cases_Bool (is_colon b)) [
-  | inl colon ↦ subst (λ c. is_pair_end (c ∷ t) ≡ (list_all is_ascii_digit (first_half (c ∷ t)) && is_digits (second_half (c ∷ t)))) (sym (eqb-true b 58 colon)) refl
-  | inr other ↦
-      ap (λ c. cond (is_ascii_digit b) (is_pair_end t) (c && is_digits t)) other
-      ∙ ap (λ x. cond (is_ascii_digit b) x false) (pair-end-same t)
-      ∙ chosen (is_ascii_digit b) (list_all is_ascii_digit (first_half t)) (is_digits (second_half t))
-      ∙ ap (λ half. list_all is_ascii_digit half && is_digits (second_half t)) (sym (before-more is_colon b t other))
-      ∙ ap (λ half. list_all is_ascii_digit (first_half (b ∷ t)) && is_digits half) (sym (after-more is_colon b t other))
-]
-  where
-    chosen : (a x y : Bool) → cond a (x && y) false ≡ ((a && x) && y)
-    chosen true x y = refl
-    chosen false x y = refl
-
-pub pair-same : (t : List ℕ) → is_pair_text t ≡ is_pair_shape t
-pair-same [] = refl
-pair-same (b ∷ t) = elim (cases_Bool (is_colon b)) [
-  | inl colon ↦ subst (λ c. is_pair_text (c ∷ t) ≡ is_pair_shape (c ∷ t)) (sym (eqb-true b 58 colon)) refl
-  | inr other ↦
-      ap (λ x. is_ascii_digit b && x) (pair-end-same t)
-      ∙ joined (is_ascii_digit b) (list_all is_ascii_digit (first_half t)) (is_digits (second_half t))
-      ∙ ap (λ x. x && is_digits (second_half t)) (sym (digits-more b (first_half t)))
-      ∙ ap (λ half. is_digits half && is_digits (second_half t)) (sym (before-more is_colon b t other))
-      ∙ ap (λ half. is_digits (first_half (b ∷ t)) && is_digits half) (sym (after-more is_colon b t other))
-]
-  where
-    joined : (a x y : Bool) → (a && (x && y)) ≡ ((a && x) && y)
-    joined true x y = refl
-    joined false x y = refl
-
-pub pair-front : (part : List ℕ) → IsLongestFront is_pair_shape part (pair_front part)
-pair-front part = front-same is_pair_text is_pair_shape part (pair_front part) pair-same (pair-text-front part)
 
 -- ---- labels
 

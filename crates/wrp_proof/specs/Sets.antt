@@ -1,8 +1,7 @@
 -- Sets of junctions, and what crosses them.
-use Rattle.std.specs.Prelude.{ℕ, ◌/◌, ◌*◌, ◌+◌, Bool, true, false, ◌&&◌, ◌||◌, not, ◌==◌, nat_eq, nat_le, List, [], ◌∷◌, length, slice_index, slice_index_or, slice_get, Option, None, Some}
+use Rattle.std.specs.Prelude.{ℕ, Bool, false, ◌&&◌, ◌||◌, not, ◌==◌, nat_eq, List, length, slice_index, slice_get}
 use Rattle.std.specs.Option.{option_map_or}
-use Rattle.std.specs.List.{list_any, list_all, count_by}
-use Rattle.wrp_town.specs.declared.street.Street.{Street}
+use Rattle.std.specs.List.{list_any, count_by}
 use Rattle.wrp_town.specs.declared.town.Town.{Town}
 use Rattle.wrp_town.specs.Streets.{demands_at, forward_arc}
 use Rattle.wrp_town.specs.Arcs.{tail_of, head_of, demands}

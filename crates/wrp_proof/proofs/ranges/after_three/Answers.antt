@@ -1,4 +1,4 @@
-use Rattle.std.proofs.Common.{arith, ◌≡◌, ◌+◌, length, sym, ◌∙◌}
+use Rattle.std.proofs.Common.{arith, sym, ◌∙◌}
 use Rattle.wrp_proof.specs.Numbers.{keeps_then, is_right, keep_rules}
 use Rattle.wrp_proof.specs.Parts.{first_half}
 use Rattle.wrp_proof.proofs.FirstNumbers.{then-good, then-rest, then-bad, colon-right}

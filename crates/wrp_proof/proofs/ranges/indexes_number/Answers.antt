@@ -1,5 +1,4 @@
-use Rattle.std.proofs.Common.{arith, ◌≡◌, ◌+◌, ◌&&◌, ◌||◌, cond, true, refl, length, sym, ap, ◌∙◌}
-use Rattle.std.specs.List.{list_all}
+use Rattle.std.proofs.Common.{arith, ◌≡◌, ◌&&◌, ◌||◌, true, refl, sym, ap, ◌∙◌}
 use Rattle.wrp_proof.specs.Parts.{first_half, is_index_part, number_of}
 use Rattle.wrp_proof.specs.Shapes.{is_slash}
 use Rattle.wrp_proof.specs.Numbers.{are_labels}

@@ -1,7 +1,6 @@
-use Rattle.std.proofs.Common.{◌≡◌, false, ◌<◌, ◌^◌, arith, subst, sym, ◌∙◌, length}
+use Rattle.std.proofs.Common.{◌≡◌, false, ◌<◌, ◌^◌, arith, subst, sym, ◌∙◌}
 use Rattle.wrp_proof.specs.Parts.{parts_of}
 use Rattle.wrp_proof.specs.Numbers.{keep_rules, IsFirstBad}
-use Rattle.wrp_proof.specs.declared.ranges.Others.TheVariants.{Pairs}
 use Rattle.wrp_proof.proofs.PairLists.{few_pairs}
 use Rattle.wrp_proof.proofs.PairNumbers.{pairs-room}
 use Rattle.wrp_proof.proofs.ranges.others_number.Goals as goal

@@ -1,4 +1,4 @@
-use Rattle.std.proofs.Common.{arith, ◌≡◌, ◌+◌, ◌&&◌, cond, true, nat_le, refl, length, [], sym, ap, ◌∙◌, codes, ◌++◌}
+use Rattle.std.proofs.Common.{arith, ◌+◌, ◌&&◌, true, nat_le, refl, [], sym, ap, ◌∙◌, codes, ◌++◌}
 use Rattle.wrp_proof.specs.Parts.{first_half, is_index_part, number_of, are_set_parts}
 use Rattle.wrp_proof.proofs.Guards.{guard-none, guard-some}
 use Rattle.wrp_proof.proofs.FirstNumbers.{keeps-bad_one, keeps-more, colon-index}

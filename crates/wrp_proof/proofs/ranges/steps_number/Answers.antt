@@ -1,4 +1,4 @@
-use Rattle.std.proofs.Common.{arith, ◌≡◌, ◌+◌, ◌&&◌, cond, true, refl, length, sym, ap, ◌∙◌}
+use Rattle.std.proofs.Common.{arith, ◌&&◌, true, refl, ap}
 use Rattle.std.specs.List.{list_all}
 use Rattle.wrp_proof.specs.Parts.{first_half, is_step, step_of}
 use Rattle.wrp_proof.proofs.Guards.{read-none, read-some}

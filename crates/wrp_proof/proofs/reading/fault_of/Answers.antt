@@ -1,4 +1,4 @@
-use Rattle.std.proofs.Common.{arith, ◌≡◌, ◌∷◌, true, false, length, refl, sym, ap, ◌∙◌}
+use Rattle.std.proofs.Common.{arith, ◌≡◌, ◌∷◌, true, length, sym, ap, ◌∙◌}
 use Rattle.std.proofs.lemmas.Bool.{and_from, not-false}
 use Rattle.wrp_proof.specs.Parts.{is_spaced, parts_of}
 use Rattle.wrp_proof.specs.Shapes.{has_parts_shape}
