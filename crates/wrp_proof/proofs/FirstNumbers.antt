@@ -11,7 +11,7 @@ use Rattle.std.proofs.Math.Bool.{and-false}
 use Rattle.std.proofs.lemmas.Bool.{and_from}
 use Rattle.std.proofs.lemmas.List.{append-nil, length-append}
 use Rattle.std.specs.List.{list_all}
-use Rattle.wrp_proof.specs.Numbers.{keeps_then, is_right, IsFirstBad}
+use Rattle.wrp_proof.specs.Numbers.{keeps_then, is_in_range, IsFirstBad}
 use Rattle.wrp_proof.specs.Lines.{spaced}
 use Rattle.wrp_proof.specs.Parts.{parts_of, first_half, second_half, is_number, is_index_part, number_of, sign_of, is_sign, is_step, street_part}
 use Rattle.wrp_proof.proofs.PartFronts.{sign-more}
@@ -109,7 +109,7 @@ colon-number xs = go (nat_lt 0 (length (xs ++ codes ":1"))) (list_all is_ascii_d
     go true b e = ap (λ d. d && (nat_le (length (xs ++ codes ":1")) 1 || not (slice_index (xs ++ codes ":1") 0 == 48))) e
     go false b e = refl
 
-pub colon-right : (range : Range) (xs : List ℕ) → is_right range (xs ++ codes ":1") ≡ false
+pub colon-right : (range : Range) (xs : List ℕ) → is_in_range range (xs ++ codes ":1") ≡ false
 colon-right Count xs = ap (λ d. d && is_count (number_of (xs ++ codes ":1"))) (colon-number xs)
 colon-right Index xs = ap (λ d. d && is_index (number_of (xs ++ codes ":1"))) (colon-number xs)
 colon-right (FromOne most) xs = ap (λ d. d && is_from_one most (number_of (xs ++ codes ":1"))) (colon-number xs)

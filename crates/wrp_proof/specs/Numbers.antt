@@ -11,8 +11,8 @@ use Rattle.wrp_proof.specs.Shapes.{is_slash}
 
 -- a number in its range, and numbers behind it that keep their rules; or no more numbers
 abbrev pub keeps_then : (List ℕ → Bool) → (List (List ℕ) → Bool) → List (List ℕ) → Bool
-keeps_then is_right keep_rules [] = true
-keeps_then is_right keep_rules (part ∷ parts) = is_right part && keep_rules parts
+keeps_then is_right keep [] = true
+keeps_then is_right keep (part ∷ parts) = is_right part && keep parts
 
 -- numbers, and a slash among them where the shape has one
 abbrev pub are_labels : List (List ℕ) → Bool
@@ -37,23 +37,23 @@ keeps_rules letter parts =
 -- the place in a part of its number that breaks a rule: that of the second number of a pair where the first
 -- one breaks none, so that the pair would keep the rules with 1 for its second number; else that of the first
 abbrev pub place_in : (List (List ℕ) → Bool) → List (List ℕ) → List ℕ → ℕ
-place_in keep_rules before part =
-    if keep_rules (before ++ (first_half part ++ codes ":1") ∷ []) then length part - length (second_half part) else 0
+place_in keep before part =
+    if keep (before ++ (first_half part ++ codes ":1") ∷ []) then length part - length (second_half part) else 0
 
 -- the parts before this one keep the rules, and with it the rules are broken, whatever follows: there a number
 -- stands at this place
-pub record IsFirstBad (keep_rules : List (List ℕ) → Bool) (left : List ℕ) (at : ℕ) : Type 0 where
+pub record IsFirstBad (keep : List (List ℕ) → Bool) (left : List ℕ) (at : ℕ) : Type 0 where
   pub before : List (List ℕ)
   pub part : List ℕ
   pub after : List (List ℕ)
   pub parts : parts_of left ≡ before ++ part ∷ after
-  pub good : keep_rules before ≡ true
-  pub bad : (more : List (List ℕ)) → keep_rules (before ++ part ∷ more) ≡ false
-  pub place : at ≡ length (spaced [] before) + 1 + place_in keep_rules before part
+  pub good : keep before ≡ true
+  pub bad : (more : List (List ℕ)) → keep (before ++ part ∷ more) ≡ false
+  pub place : at ≡ length (spaced [] before) + 1 + place_in keep before part
 
 -- where the rules are broken, the first number that breaks one stands at this place
 abbrev pub IsPlaceOfBad : (List (List ℕ) → Bool) → List ℕ → ℕ → Type 0
-IsPlaceOfBad keep_rules left at = keep_rules (parts_of left) ≡ false → IsFirstBad keep_rules left at
+IsPlaceOfBad keep left at = keep (parts_of left) ≡ false → IsFirstBad keep left at
 
 -- the first number of a line that breaks a rule of its letter stands at this place
 pub record IsFirstBadNumber (line : List ℕ) (at : ℕ) : Type 0 where
@@ -64,20 +64,20 @@ pub record IsFirstBadNumber (line : List ℕ) (at : ℕ) : Type 0 where
   pub first : IsFirstBad (keeps_rules letter) left behind
   pub place : at ≡ behind + 1
 
--- what the search for the first such number goes over: one of the first numbers is right
-abbrev pub is_right : Range → List ℕ → Bool
-is_right Count part = is_count_part part
-is_right Index part = is_index_part part
-is_right (FromOne most) part = is_from_one_part most part
+-- one of the first numbers is in its range
+abbrev pub is_in_range : Range → List ℕ → Bool
+is_in_range Count part = is_count_part part
+is_in_range Index part = is_index_part part
+is_in_range (FromOne most) part = is_from_one_part most part
 
 -- what follows the first numbers keeps its rules
-abbrev pub keep_rules : Others → List (List ℕ) → Bool
-keep_rules Steps parts = list_all is_step parts
-keep_rules RoundMultipliers parts = are_multiplier_parts (2 ^ 40) parts
-keep_rules Multipliers parts = are_multiplier_parts (2 ^ 60) parts
-keep_rules Pairs parts = are_pair_parts (2 ^ 72) parts
-keep_rules Set parts = are_set_parts parts
-keep_rules Indexes parts = are_labels parts
+abbrev pub others_keep_rules : Others → List (List ℕ) → Bool
+others_keep_rules Steps parts = list_all is_step parts
+others_keep_rules RoundMultipliers parts = are_multiplier_parts (2 ^ 40) parts
+others_keep_rules Multipliers parts = are_multiplier_parts (2 ^ 60) parts
+others_keep_rules Pairs parts = are_pair_parts (2 ^ 72) parts
+others_keep_rules Set parts = are_set_parts parts
+others_keep_rules Indexes parts = are_labels parts
 
 -- pairs that keep the rules, and no more of them than there is room for
 abbrev pub are_few_pairs : ℕ → ℕ → List (List ℕ) → Bool

@@ -2,7 +2,7 @@
 ghost use Rattle.std.specs.Prelude.{◌≡◌, ◌<◌, ◌≤◌, ◌+◌, ◌-◌, ◌^◌, ◌&&◌, if◌then◌else◌, true, false, length, IfOk, IfErr};
 ghost use Rattle.std.specs.List.{list_all};
 ghost use Rattle.wrp_proof.specs.Parts.{parts_of, first_half, second_half, number_of, is_step, is_from_one_part, are_set_parts};
-ghost use Rattle.wrp_proof.specs.Numbers.{keeps_then, is_right, keep_rules, are_labels, are_few_pairs, is_next_first, keeps_rules, IsPlaceOfBad};
+ghost use Rattle.wrp_proof.specs.Numbers.{keeps_then, is_in_range, others_keep_rules, are_labels, are_few_pairs, is_next_first, keeps_rules, IsPlaceOfBad};
 
 use crate::labels::is_slash_text;
 use crate::numbers::next_low;
@@ -66,7 +66,7 @@ pub(crate) fn number_place(letter: u8, left: &[u8]) -> usize
 /// The place of the first number that breaks a rule, among three numbers and others.
 fn after_three(left: &[u8], one: Range, two: Range, three: Range, others: Others) -> usize
     ensures within { result ≤ length left.now }
-    ensures first { IsPlaceOfBad (keeps_then (is_right one) (keeps_then (is_right two) (keeps_then (is_right three) (keep_rules others)))) left.now result }
+    ensures first { IsPlaceOfBad (keeps_then (is_in_range one) (keeps_then (is_in_range two) (keeps_then (is_in_range three) (others_keep_rules others)))) left.now result }
 {
     let Some((number, behind)) = split_part(left) else {
         return 0;
@@ -80,7 +80,7 @@ fn after_three(left: &[u8], one: Range, two: Range, three: Range, others: Others
 /// The place of the first number that breaks a rule, among two numbers and others.
 fn after_two(left: &[u8], one: Range, two: Range, others: Others) -> usize
     ensures within { result ≤ length left.now }
-    ensures first { IsPlaceOfBad (keeps_then (is_right one) (keeps_then (is_right two) (keep_rules others))) left.now result }
+    ensures first { IsPlaceOfBad (keeps_then (is_in_range one) (keeps_then (is_in_range two) (others_keep_rules others))) left.now result }
 {
     let Some((number, behind)) = split_part(left) else {
         return 0;
@@ -94,7 +94,7 @@ fn after_two(left: &[u8], one: Range, two: Range, others: Others) -> usize
 /// The place of the first number that breaks a rule, among a number and others.
 fn after_one(left: &[u8], one: Range, others: Others) -> usize
     ensures within { result ≤ length left.now }
-    ensures first { IsPlaceOfBad (keeps_then (is_right one) (keep_rules others)) left.now result }
+    ensures first { IsPlaceOfBad (keeps_then (is_in_range one) (others_keep_rules others)) left.now result }
 {
     let Some((number, behind)) = split_part(left) else {
         return 0;
@@ -107,7 +107,7 @@ fn after_one(left: &[u8], one: Range, others: Others) -> usize
 
 /// Whether a part is a number in this range.
 fn is_within(part: &[u8], range: Range) -> bool
-    ensures { result ≡ is_right range part.now }
+    ensures { result ≡ is_in_range range part.now }
 {
     match range {
         Range::Count => read_count(part).is_some(),
@@ -119,7 +119,7 @@ fn is_within(part: &[u8], range: Range) -> bool
 /// The place of the first number that breaks a rule, among what follows the first numbers.
 fn others_number(left: &[u8], others: Others) -> usize
     ensures within { result ≤ length left.now }
-    ensures first { IsPlaceOfBad (keep_rules others) left.now result }
+    ensures first { IsPlaceOfBad (others_keep_rules others) left.now result }
 {
     match others {
         Others::Steps => steps_number(left),
