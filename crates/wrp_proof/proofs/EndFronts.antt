@@ -3,14 +3,14 @@ use Rattle.std.proofs.Common.{inl, inr, arith, codes, ◌≡◌, ℕ, ◌+◌, �
 use Rattle.std.proofs.lemmas.Bool.{and_parts, and_from, cases_Bool, cases_lt, eqb-true, eq-eqb, ne_eqb, false≢true}
 use Rattle.std.proofs.lemmas.List.{append-nil}
 use Rattle.std.proofs.lemmas.Slice.Eq.{bytes_eq-Decides}
-use Rattle.std.specs.List.{list_all, slice_split}
+use Rattle.std.specs.List.{slice_split}
 use Rattle.std.specs.Str.{bytes_eq}
 use Rattle.wrp_proof.specs.Fronts.{IsLongestFront}
-use Rattle.wrp_proof.specs.Parts.{is_space, is_digits}
-use Rattle.wrp_proof.specs.Ends.{are_two, are_numbers, has_word_shape, begins_with_end, has_end_shape}
+use Rattle.wrp_proof.specs.Parts.{is_space, is_digits, are_two}
+use Rattle.wrp_proof.specs.Ends.{are_numbers, has_word_shape, begins_with_end, has_end_shape}
 use Rattle.wrp_proof.proofs.Fronts.{front-at, front-same, front-cons, front-append, front-end, front-stop}
 use Rattle.wrp_proof.proofs.PartFronts.{digits_front, digits-front, digits-one}
-use Rattle.wrp_proof.proofs.Spacing.{is_solid, spread, digits-solid, spread-split, solid_cut}
+use Rattle.wrp_proof.proofs.Spacing.{spread, digits-solid, spread-split, solid_cut}
 use Rattle.wrp_proof.proofs.TwoNumbers.{is_two_text, two-same, two-text, text-two}
 
 -- a word, and behind it a text of a shape
@@ -117,7 +117,7 @@ abbrev pub is_optimal : List ℕ → Bool
 is_optimal text = behind (codes "end optimal ") is_digits text
 
 abbrev pub is_unfinished : List ℕ → Bool
-is_unfinished text = behind (codes "end unfinished ") is_two_text text
+is_unfinished text = behind (codes "end unfinished ") (is_two_text 32) text
 
 abbrev pub is_infeasible : List ℕ → Bool
 is_infeasible text = behind (codes "end infeasible") is_empty text
@@ -147,7 +147,7 @@ shape-end (first ∷ word ∷ one ∷ two ∷ []) t h e =
     let rest = and_parts (bytes_eq word (codes "unfinished")) (is_digits one && is_digits two) both.1 in
     let numbers = and_parts (is_digits one) (is_digits two) rest.1 in
     ap is_end (tails 32 t (first ++ (32 ∷ word ++ (32 ∷ one ++ (32 ∷ two ++ [])))) e ∙ ap (λ f. f ++ (32 ∷ word ++ (32 ∷ one ++ (32 ∷ two ++ [])))) (named first (codes "end") both.0) ∙ ap (λ w. codes "end" ++ (32 ∷ w ++ (32 ∷ one ++ (32 ∷ two ++ [])))) (named word (codes "unfinished") rest.0))
-    ∙ ap (λ x. is_two_text (one ++ 32 ∷ x) || false) (append-nil two) ∙ ap (λ d. d || false) (two-text one two numbers.0 numbers.1)
+    ∙ ap (λ x. is_two_text 32 (one ++ 32 ∷ x) || false) (append-nil two) ∙ ap (λ d. d || false) (two-text 32 refl one two numbers.0 numbers.1)
 shape-end (first ∷ word ∷ one ∷ two ∷ next ∷ others) t h e = absurd (false≢true (and_parts (bytes_eq first (codes "end")) false h).1)
 
 record IsBehind (word : List ℕ) (shape : List ℕ → Bool) (text : List ℕ) : Type 0 where
@@ -173,8 +173,8 @@ optimal-shape t h =
 
 unfinished-shape : (t : List ℕ) → is_unfinished t ≡ true → has_end_shape t ≡ true
 unfinished-shape t h =
-    let b = behind-text (codes "end unfinished ") is_two_text t h in
-    let n = text-two b.rest b.whole in
+    let b = behind-text (codes "end unfinished ") (is_two_text 32) t h in
+    let n = text-two 32 b.rest b.whole in
     ap has_end_shape b.same
     ∙ ap (λ x. are_numbers (codes "unfinished") (slice_split is_space x)) n.same
     ∙ ap (are_numbers (codes "unfinished")) (solid_cut n.one (32 ∷ n.two) (digits-solid n.one (digits-one n.one n.first)) refl)
@@ -231,20 +231,20 @@ optimal-case line at h e =
     go rest e =
         end-front (codes "end optimal " ++ rest) (12 + digits_front rest) 4 4 at
         (long-front (codes "end optimal ") is_digits rest (digits_front rest) (digits-front rest))
-        (short-front (codes "end unfinished ") is_two_text (codes "0 0") (codes "end optimal " ++ rest) refl (omega arith))
+        (short-front (codes "end unfinished ") (is_two_text 32) (codes "0 0") (codes "end optimal " ++ rest) refl (omega arith))
         (infeasible-front (codes "end optimal " ++ rest))
         (omega arith)
 
-pub unfinished-case : (line : List ℕ) (p at : ℕ) → shared_front (codes "end unfinished ") line ≡ 15 → IsLongestFront are_two (drop 15 line) p → at ≡ 15 + p → IsLongestFront has_end_shape line at
+pub unfinished-case : (line : List ℕ) (p at : ℕ) → shared_front (codes "end unfinished ") line ≡ 15 → IsLongestFront (are_two 32) (drop 15 line) p → at ≡ 15 + p → IsLongestFront has_end_shape line at
 unfinished-case line p at h numbers e =
     subst (λ t. IsLongestFront has_end_shape t at) (sym (full (codes "end unfinished ") line h))
-    (go (drop 15 line) (front-same are_two is_two_text (drop 15 line) p (λ t. sym (two-same t)) numbers))
+    (go (drop 15 line) (front-same (are_two 32) (is_two_text 32) (drop 15 line) p (λ t. sym (two-same 32 refl t)) numbers))
   where
-    go : (rest : List ℕ) → IsLongestFront is_two_text rest p → IsLongestFront has_end_shape (codes "end unfinished " ++ rest) at
+    go : (rest : List ℕ) → IsLongestFront (is_two_text 32) rest p → IsLongestFront has_end_shape (codes "end unfinished " ++ rest) at
     go rest numbers =
         end-front (codes "end unfinished " ++ rest) 4 (15 + p) 4 at
         (short-front (codes "end optimal ") is_digits (codes "0") (codes "end unfinished " ++ rest) refl (omega arith))
-        (long-front (codes "end unfinished ") is_two_text rest p numbers)
+        (long-front (codes "end unfinished ") (is_two_text 32) rest p numbers)
         (infeasible-front (codes "end unfinished " ++ rest))
         (omega arith)
 
@@ -252,6 +252,6 @@ pub other-case : (line : List ℕ) (o u i at : ℕ) → o ≡ shared_front (code
 other-case line o u i at eo eu ei lo lu e =
     end-front line o u i at
     (front-at is_optimal line (shared_front (codes "end optimal ") line) o (short-front (codes "end optimal ") is_digits (codes "0") line refl (omega arith)) eo)
-    (front-at is_unfinished line (shared_front (codes "end unfinished ") line) u (short-front (codes "end unfinished ") is_two_text (codes "0 0") line refl (omega arith)) eu)
+    (front-at is_unfinished line (shared_front (codes "end unfinished ") line) u (short-front (codes "end unfinished ") (is_two_text 32) (codes "0 0") line refl (omega arith)) eu)
     (front-at is_infeasible line (shared_front (codes "end infeasible") line) i (infeasible-front line) ei)
     e

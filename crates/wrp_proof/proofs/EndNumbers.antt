@@ -1,23 +1,19 @@
 -- The first number of an end line that is out of range.
-use Rattle.std.proofs.Common.{is_some, not, inl, inr, arith, codes, Some, None, Option, ◌≡◌, ℕ, ◌+◌, ◌<◌, suc, Bool, true, false, cond, ◌&&◌, ◌||◌, ◌==◌, List, [], ◌∷◌, ◌++◌, length, take, drop, refl, sym, ap, ◌∙◌, subst, append_assoc}
-use Rattle.std.proofs.lemmas.Bool.{and_parts, cases_Bool, eqb-true, false≢true, true≢false}
-use Rattle.std.proofs.lemmas.List.{append-nil, length-append, take_at}
+use Rattle.std.proofs.Common.{arith, codes, Some, None, ◌≡◌, ℕ, ◌+◌, ◌<◌, suc, Bool, true, false, cond, ◌&&◌, ◌||◌, ◌==◌, List, [], ◌∷◌, ◌++◌, length, drop, refl, sym, ap, ◌∙◌}
+use Rattle.std.proofs.lemmas.Bool.{and_parts, false≢true}
+use Rattle.std.proofs.lemmas.List.{length-append}
 use Rattle.std.specs.Char.{is_ascii_digit}
 use Rattle.std.specs.List.{list_all, slice_split}
-use Rattle.wrp_proof.specs.declared.record.End.{End}
 use Rattle.wrp_proof.specs.declared.record.End.TheVariants.{Optimal, Infeasible, Unfinished}
 use Rattle.wrp_proof.specs.EndFaults.{IsFirstBadCost}
-use Rattle.wrp_proof.specs.Ends.{has_end_shape, end_in, optimal_in, unfinished_in}
+use Rattle.wrp_proof.specs.Ends.{has_end_shape, end_in, optimal_in}
 use Rattle.wrp_proof.specs.Parts.{is_space, is_digits, is_count_part, number_of}
+use Rattle.wrp_proof.proofs.Guards.{guard-none}
 use Rattle.wrp_proof.proofs.EndFronts.{behind, shared_front, full, end-same, alone, is_empty, is_optimal, is_unfinished, is_infeasible, is_end}
 use Rattle.wrp_proof.proofs.PartFronts.{digits_front, digits-one}
 use Rattle.wrp_proof.proofs.PartPlaces.{front-more}
 use Rattle.wrp_proof.proofs.Spacing.{digits-solid, solid_cut}
-use Rattle.wrp_proof.proofs.TwoNumbers.{is_two_text, AreTwoNumbers, text-two}
-
-unguarded : (b : Bool) (x : End) → cond b (Some x) None ≡ None → b ≡ false
-unguarded true x h = cc
-unguarded false x h = refl
+use Rattle.wrp_proof.proofs.TwoNumbers.{is_two_text, text-two}
 
 or-false : (a : Bool) → (a || false) ≡ true → a ≡ true
 or-false true h = refl
@@ -35,9 +31,9 @@ optimal-number line shape none h = go (drop 12 line) (full (codes "end optimal "
           before = [];
           number = rest;
           after = [];
-          text = e ∙ ap (λ x. codes "end optimal " ++ x) (sym (append-nil rest));
+          parts = ap (slice_split is_space) e ∙ ap (λ ps. codes "end" ∷ codes "optimal" ∷ ps) (alone rest digits);
           good = refl;
-          bad = unguarded (is_count_part rest) (Optimal (number_of rest)) (sym (ap (λ t. end_in (slice_split is_space t)) e ∙ ap optimal_in (alone rest digits)) ∙ none);
+          bad = guard-none (is_count_part rest) (Optimal (number_of rest)) (sym none ∙ ap (λ t. end_in (slice_split is_space t)) e ∙ ap optimal_in (alone rest digits));
           place = refl;
         }
 
@@ -54,25 +50,25 @@ pub record IsUnfinished (line : List ℕ) : Type 0 where
   pub high : List ℕ
   pub rest : drop 15 line ≡ low ++ 32 ∷ high
   pub size : digits_front (drop 15 line) ≡ length low
-  pub text : line ≡ codes "end unfinished " ++ (low ++ 32 ∷ high)
+  pub parts : slice_split is_space line ≡ codes "end" ∷ codes "unfinished" ∷ low ∷ high ∷ []
   pub bad : (is_count_part low && is_count_part high) ≡ false
 
 pub unfinished-numbers : (line : List ℕ) → has_end_shape line ≡ true → end_in (slice_split is_space line) ≡ None → shared_front (codes "end unfinished ") line ≡ 15 → IsUnfinished line
 unfinished-numbers line shape none h =
     let e = full (codes "end unfinished ") line h in
-    let two : is_two_text (drop 15 line) ≡ true = or-false (is_two_text (drop 15 line)) (sym (ap is_end e) ∙ end-same line ∙ shape) in
-    let n = text-two (drop 15 line) two in
-    let text : line ≡ codes "end unfinished " ++ (n.one ++ 32 ∷ n.two) = e ∙ ap (λ x. codes "end unfinished " ++ x) n.same in
+    let two : is_two_text 32 (drop 15 line) ≡ true = or-false (is_two_text 32 (drop 15 line)) (sym (ap is_end e) ∙ end-same line ∙ shape) in
+    let n = text-two 32 (drop 15 line) two in
+    let parts : slice_split is_space line ≡ codes "end" ∷ codes "unfinished" ∷ n.one ∷ n.two ∷ [] =
+    ap (slice_split is_space) (e ∙ ap (λ x. codes "end unfinished " ++ x) n.same)
+    ∙ ap (λ ps. codes "end" ∷ codes "unfinished" ∷ ps) (solid_cut n.one (32 ∷ n.two) (digits-solid n.one (digits-one n.one n.first)) refl)
+    ∙ ap (λ ps. codes "end" ∷ codes "unfinished" ∷ n.one ∷ ps) (alone n.two n.second) in
     record {
       low = n.one;
       high = n.two;
       rest = n.same;
       size = ap digits_front n.same ∙ digits-first n.one n.two (digits-one n.one n.first);
-      text = text;
-      bad = unguarded (is_count_part n.one && is_count_part n.two) (Unfinished (number_of n.one) (number_of n.two))
-          (sym (ap (λ t. end_in (slice_split is_space t)) text
-          ∙ ap unfinished_in (solid_cut n.one (32 ∷ n.two) (digits-solid n.one (digits-one n.one n.first)) refl)
-          ∙ ap (λ ps. unfinished_in (n.one ∷ ps)) (alone n.two n.second)) ∙ none);
+      parts = parts;
+      bad = guard-none (is_count_part n.one && is_count_part n.two) (Unfinished (number_of n.one) (number_of n.two)) (sym none ∙ ap end_in parts);
     }
 
 pub low-number : (line : List ℕ) (u : IsUnfinished line) → is_count_part u.low ≡ false → IsFirstBadCost line 15
@@ -81,7 +77,7 @@ low-number line u h = record {
   before = [];
   number = u.low;
   after = u.high ∷ [];
-  text = u.text ∙ ap (λ x. codes "end unfinished " ++ (u.low ++ 32 ∷ x)) (sym (append-nil u.high));
+  parts = u.parts;
   good = refl;
   bad = h;
   place = refl;
@@ -93,7 +89,7 @@ high-number line u at h e = record {
   before = u.low ∷ [];
   number = u.high;
   after = [];
-  text = u.text ∙ ap (λ x. codes "end unfinished " ++ (u.low ++ 32 ∷ x)) (sym (append-nil u.high));
+  parts = u.parts;
   good = ap (λ b. b && true) h;
   bad = sym (ap (λ b. b && is_count_part u.high) h) ∙ u.bad;
   place = e ∙ omega (arith, length-append u.low []);
@@ -110,7 +106,7 @@ behind-shared (w ∷ word) shape (b ∷ text) h =
 pub no-number : (line : List ℕ) → has_end_shape line ≡ true → end_in (slice_split is_space line) ≡ None → shared_front (codes "end optimal ") line < 12 → shared_front (codes "end unfinished ") line < 15 → ⊥
 no-number line shape none o u = three (is_optimal line) (is_unfinished line) (is_infeasible line) (end-same line ∙ shape)
     (λ h. omega (arith, behind-shared (codes "end optimal ") is_digits line h))
-    (λ h. omega (arith, behind-shared (codes "end unfinished ") is_two_text line h))
+    (λ h. omega (arith, behind-shared (codes "end unfinished ") (is_two_text 32) line h))
     (λ h. last (drop 14 line) (full (codes "end infeasible") line (behind-shared (codes "end infeasible") is_empty line h)) h)
   where
     three : (a b c : Bool) → (a || (b || c)) ≡ true → (a ≡ true → ⊥) → (b ≡ true → ⊥) → (c ≡ true → ⊥) → ⊥
@@ -124,12 +120,3 @@ no-number line shape none o u = three (is_optimal line) (is_unfinished line) (is
         clash : Some Infeasible ≡ None → ⊥
         clash e = cc
     last (b ∷ rest) e h = false≢true (sym (ap is_infeasible e) ∙ h)
-
--- what a reader of a number says of its part
-pub read-false : (b : Bool) (x : ℕ) (r : Option ℕ) (none : Bool) → r ≡ cond b (Some x) None → is_some r ≡ not none → none ≡ true → b ≡ false
-read-false true x r none e f g = sym (ap not (sym g) ∙ sym f ∙ ap is_some e)
-read-false false x r none e f g = refl
-
-pub read-true : (b : Bool) (x : ℕ) (r : Option ℕ) (none : Bool) → r ≡ cond b (Some x) None → is_some r ≡ not none → none ≡ false → b ≡ true
-read-true true x r none e f g = refl
-read-true false x r none e f g = sym (ap not (sym g) ∙ sym f ∙ ap is_some e)

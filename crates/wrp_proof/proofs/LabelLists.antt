@@ -47,7 +47,7 @@ pub parts_of-solid : (left : List ℕ) → list_all is_solid (parts_of left) ≡
 parts_of-solid [] = refl
 parts_of-solid (space ∷ bytes) = split-solid bytes
 
-spread-append : (xs ys : List (List ℕ)) → spread (xs ++ ys) ≡ spread xs ++ spread ys
+pub spread-append : (xs ys : List (List ℕ)) → spread (xs ++ ys) ≡ spread xs ++ spread ys
 spread-append [] ys = refl
 spread-append (x ∷ xs) ys = ap (λ rest. 32 ∷ x ++ rest) (spread-append xs ys) ∙ sym (append_assoc (32 ∷ x) (spread xs) (spread ys))
 

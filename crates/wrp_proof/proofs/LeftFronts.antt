@@ -10,10 +10,11 @@ use Rattle.std.specs.List.{list_all, slice_split, onto_first}
 use Rattle.wrp_proof.specs.declared.place.Tail.{Tail}
 use Rattle.wrp_proof.specs.declared.place.Tail.TheVariants.{Steps, Pairs, Numbers, Labels, Nothing}
 use Rattle.wrp_proof.specs.Fronts.{IsLongestFront, is_left}
-use Rattle.wrp_proof.specs.Parts.{is_space, is_spaced, parts_of, is_digits, is_sign, is_step_shape, is_pair_shape, is_colon}
+use Rattle.wrp_proof.specs.Parts.{is_space, is_spaced, parts_of, is_digits, is_sign, is_step_shape, is_pair_shape}
 use Rattle.wrp_proof.specs.Shapes.{is_slash, is_label, is_nothing, has_labels_shape, has_tail_shape, number_then}
 use Rattle.wrp_proof.proofs.Fronts.{front-at, front-end, front-stop, front-pass, front-break, IsCut, IsFirst}
-use Rattle.wrp_proof.proofs.PartFronts.{digits_front, digits-front, digits-one, step-front, step_front, pair-front, pair_front, label-front, label_front, is_step_end, is_step_text, step-same, is_pair_end, is_pair_text, pair-same}
+use Rattle.wrp_proof.proofs.PartFronts.{digits_front, digits-front, digits-one, is_step_end, is_step_text, step-same}
+use Rattle.wrp_proof.proofs.TwoNumbers.{is_two_end, is_two_text, two-same}
 use Rattle.wrp_proof.proofs.Spacing.{is_solid, spread, parts_of-spread, digits-solid}
 
 -- some parts of a shape
@@ -131,24 +132,24 @@ pub steps-break : (left part others : List ℕ) (at place : ℕ) → IsCut left 
 steps-break left part others at place cut broken h e =
     front-break (list_all is_step_shape) is_step_shape left part others at place (list-first is_step_shape step-solid) cut broken h e
 
-pair_end-solid : (t : List ℕ) → is_pair_end t ≡ true → is_solid t ≡ true
+pair_end-solid : (t : List ℕ) → is_two_end 58 t ≡ true → is_solid t ≡ true
 pair_end-solid [] h = refl
 pair_end-solid (b ∷ t) h = elim (cases_Bool (is_ascii_digit b)) [
-  | inl here ↦ and_from (not (b == 32)) (is_solid t) (digit_solid b here) (pair_end-solid t (sym (ap (λ d. cond d (is_pair_end t) (is_colon b && is_digits t)) here) ∙ h))
-  | inr other ↦ let both = and_parts (is_colon b) (is_digits t) (sym (ap (λ d. cond d (is_pair_end t) (is_colon b && is_digits t)) other) ∙ h) in
+  | inl here ↦ and_from (not (b == 32)) (is_solid t) (digit_solid b here) (pair_end-solid t (sym (ap (λ d. cond d (is_two_end 58 t) ((b == 58) && is_digits t)) here) ∙ h))
+  | inr other ↦ let both = and_parts (b == 58) (is_digits t) (sym (ap (λ d. cond d (is_two_end 58 t) ((b == 58) && is_digits t)) other) ∙ h) in
       and_from (not (b == 32)) (is_solid t) (colon_solid b both.0) (digit_part-solid t both.1)
 ]
   where
-    colon_solid : (b : ℕ) → is_colon b ≡ true → not (b == 32) ≡ true
+    colon_solid : (b : ℕ) → (b == 58) ≡ true → not (b == 32) ≡ true
     colon_solid b h = grind (arith, nat_tests)
 
 pair-solid : (t : List ℕ) → is_pair_shape t ≡ true → is_solid t ≡ true
-pair-solid t h = text t (pair-same t ∙ h)
+pair-solid t h = text t (two-same 58 refl t ∙ h)
   where
-    text : (t : List ℕ) → is_pair_text t ≡ true → is_solid t ≡ true
+    text : (t : List ℕ) → is_two_text 58 t ≡ true → is_solid t ≡ true
     text [] h = refl
     text (b ∷ t) h =
-        let both = and_parts (is_ascii_digit b) (is_pair_end t) h in
+        let both = and_parts (is_ascii_digit b) (is_two_end 58 t) h in
         and_from (not (b == 32)) (is_solid t) (digit_solid b both.0) (pair_end-solid t both.1)
 
 pub pairs-break : (left part others : List ℕ) (at place : ℕ) → IsCut left part others → is_pair_shape part ≡ false → IsLongestFront is_pair_shape part at → place ≡ 1 + at → IsLongestFront (is_left (list_all is_pair_shape)) left place

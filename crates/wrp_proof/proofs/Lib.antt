@@ -1,3 +1,5 @@
+pub mod Guards
+pub mod Positions
 pub mod NumberTexts
 pub mod Cutting
 pub mod Digits
@@ -16,6 +18,10 @@ pub mod LineFronts
 pub mod TwoNumbers
 pub mod EndFronts
 pub mod EndNumbers
+pub mod FirstNumbers
+pub mod PairNumbers
+pub mod NumberLaws
+pub mod OneFault
 pub mod Records
 pub mod LineLaws
 pub mod Narrow

@@ -10,6 +10,7 @@ use Rattle.std.specs.List.{list_all, join_with_byte}
 use Rattle.wrp_proof.specs.Lines.{pair_text}
 use Rattle.wrp_proof.specs.Parts.{parts_of, is_number, number_of, first_half, second_half, is_pair, pair_of, is_space, are_multiplier_parts, are_pair_parts}
 use Rattle.wrp_proof.specs.Rules.{is_index, is_from_one, is_ascending, are_pairs}
+use Rattle.wrp_proof.proofs.Guards.{guard-some, guard-none}
 use Rattle.wrp_proof.proofs.Written.{text-number}
 use Rattle.wrp_proof.proofs.WrittenPairs.{number_digits, pair-text, text-pair}
 use Rattle.wrp_proof.proofs.Spacing.{is_solid, digits-solid}
@@ -193,14 +194,6 @@ all-widened most wide (part ∷ parts) le h =
     let both = and_parts (is_pair most part) (list_all (is_pair most) parts) h in
     and_from (is_pair wide part) (list_all (is_pair wide) parts) (widened most wide part le both.0) (all-widened most wide parts le both.1)
 
-guard_some : (b : Bool) (x y : ℕ) → Some y ≡ cond b (Some x) None → (b ≡ true) × (y ≡ x)
-guard_some true x y h = (refl, cc)
-guard_some false x y h = cc
-
-guard_none : (b : Bool) (x : ℕ) → None ≡ cond b (Some x) None → b ≡ false
-guard_none true x h = cc
-guard_none false x h = refl
-
 -- a part that may not come next, and one that may
 abbrev may_come : ℕ → ℕ → ℕ → List ℕ → Bool
 may_come most low room part = is_pair most part && (nat_lt 0 room && nat_le low (pair_of part).0)
@@ -208,13 +201,13 @@ may_come most low room part = is_pair most part && (nat_lt 0 room && nat_le low 
 pub go_up-stops : (most low room : ℕ) (part : List ℕ) (all parts : List (List ℕ)) (whole : Bool) → go_up most low room all ≡ whole → all ≡ part ∷ parts
     → None ≡ cond (may_come most low room part) (Some ((pair_of part).0 + 1)) None → false ≡ whole
 go_up-stops most low room part all parts whole h e none =
-    sym (and_left (may_come most low room part) (go_up most ((pair_of part).0 + 1) (room - 1) parts) (guard_none (may_come most low room part) ((pair_of part).0 + 1) none))
+    sym (and_left (may_come most low room part) (go_up most ((pair_of part).0 + 1) (room - 1) parts) (guard-none (may_come most low room part) ((pair_of part).0 + 1) none))
     ∙ sym (ap (go_up most low room) e) ∙ h
 
 pub go_up-goes : (most low room next : ℕ) (part : List ℕ) (all parts : List (List ℕ)) (whole : Bool) → go_up most low room all ≡ whole → all ≡ part ∷ parts
     → Some next ≡ cond (may_come most low room part) (Some ((pair_of part).0 + 1)) None → (0 < room) × (go_up most next (room - 1) parts ≡ whole)
 go_up-goes most low room next part all parts whole h e some =
-    let found = guard_some (may_come most low room part) ((pair_of part).0 + 1) next some in
+    let found = guard-some (may_come most low room part) ((pair_of part).0 + 1) next some in
     let tests = and_parts (is_pair most part) (nat_lt 0 room && nat_le low (pair_of part).0) found.0 in (
       ltb-true 0 room (and_parts (nat_lt 0 room) (nat_le low (pair_of part).0) tests.1).0,
       ap (λ n. go_up most n (room - 1) parts) found.1

@@ -1,14 +1,15 @@
 -- The longest front of one part: digits, a step, a pair, a label.
-use Rattle.std.proofs.Common.{inl, inr, arith, codes, ◌≡◌, ℕ, ◌+◌, ◌-◌, ◌<◌, ◌≤◌, zero, suc, Bool, true, false, cond, ◌&&◌, ◌||◌, not, ◌==◌, nat_lt, slice_index, get_or, List, [], ◌∷◌, ◌++◌, length, take, drop, refl, sym, ap, ◌∙◌, subst, append_assoc}
+use Rattle.std.proofs.Common.{inl, inr, arith, ◌≡◌, ℕ, ◌-◌, ◌<◌, ◌≤◌, zero, suc, Bool, true, false, cond, ◌&&◌, ◌||◌, ◌==◌, nat_lt, slice_index, List, [], ◌∷◌, ◌++◌, length, take, refl, sym, ap, ◌∙◌, subst, append_assoc}
 use Rattle.std.proofs.lemmas.Bool.{and_parts, and_from, cases_Bool, lt-ltb, eqb-true, eq-eqb, ne_eqb}
+use Rattle.std.proofs.Math.Bool.{and-true, and-false, or-true}
 use Rattle.std.proofs.lemmas.Bool.Decides.{nat_tests}
 use Rattle.std.proofs.lemmas.List.{length-append}
 use Rattle.std.proofs.lemmas.List.Folds.{list_all-append}
 use Rattle.std.specs.Char.{is_ascii_digit}
 use Rattle.std.specs.Str.{bytes_eq}
-use Rattle.std.specs.List.{list_all, prefix_len, position_or_len}
+use Rattle.std.specs.List.{list_all, prefix_len}
 use Rattle.wrp_proof.specs.Fronts.{IsLongestFront}
-use Rattle.wrp_proof.specs.Parts.{is_digits, is_sign, sign_of, street_part, is_step_shape, is_colon, first_half, second_half, is_pair_shape}
+use Rattle.wrp_proof.specs.Parts.{is_digits, is_sign, sign_of, street_part, is_step_shape}
 use Rattle.wrp_proof.specs.Shapes.{is_slash, is_label}
 use Rattle.wrp_proof.proofs.Fronts.{front-at, front-same, front-cons, front-end, front-stop}
 
@@ -117,14 +118,6 @@ step-text-front (b ∷ text) = elim (cases_Bool (is_ascii_digit b)) [
 ]
 
 -- the same shape, read from its end
-and-true : (a : Bool) → a ≡ (a && true)
-and-true true = refl
-and-true false = refl
-
-and-false : (a : Bool) → (a && false) ≡ false
-and-false true = refl
-and-false false = refl
-
 and-swap : (a b c : Bool) → (a && (b && c)) ≡ (b && (a && c))
 and-swap true true c = refl
 and-swap true false c = refl
@@ -134,14 +127,14 @@ and-swap false false c = refl
 size-more : (b c : ℕ) (t : List ℕ) → length (b ∷ c ∷ t) - 1 ≡ suc (length (c ∷ t) - 1)
 size-more b c t = omega arith
 
-sign-more : (b c : ℕ) (t : List ℕ) → sign_of (b ∷ c ∷ t) ≡ sign_of (c ∷ t)
+pub sign-more : (b c : ℕ) (t : List ℕ) → sign_of (b ∷ c ∷ t) ≡ sign_of (c ∷ t)
 sign-more b c t = ap (slice_index (b ∷ c ∷ t)) (size-more b c t)
 
 street-more : (b c : ℕ) (t : List ℕ) → street_part (b ∷ c ∷ t) ≡ b ∷ street_part (c ∷ t)
 street-more b c t = ap (λ k. take k (b ∷ c ∷ t)) (size-more b c t)
 
 step-end-same : (b : ℕ) (t : List ℕ) → is_step_end (b ∷ t) ≡ (is_sign (sign_of (b ∷ t)) && list_all is_ascii_digit (street_part (b ∷ t)))
-step-end-same b [] = and-true (is_sign b)
+step-end-same b [] = sym (and-true (is_sign b))
 step-end-same b (c ∷ t) =
     ap (λ x. is_ascii_digit b && x) (step-end-same c t)
     ∙ and-swap (is_ascii_digit b) (is_sign (sign_of (c ∷ t))) (list_all is_ascii_digit (street_part (c ∷ t)))
@@ -161,104 +154,11 @@ step-same (b ∷ c ∷ t) =
 pub step-front : (part : List ℕ) → IsLongestFront is_step_shape part (step_front part)
 step-front part = front-same is_step_text is_step_shape part (step_front part) step-same (step-text-front part)
 
--- ---- pairs
-
--- digits, a colon, and one or more digits
-abbrev pub is_pair_end : List ℕ → Bool
-is_pair_end [] = false
-is_pair_end (b ∷ text) = cond (is_ascii_digit b) (is_pair_end text) (is_colon b && is_digits text)
-
-abbrev pub is_pair_text : List ℕ → Bool
-is_pair_text [] = false
-is_pair_text (b ∷ text) = is_ascii_digit b && is_pair_end text
-
-abbrev pub pair_end_front : List ℕ → ℕ
-pair_end_front [] = 0
-pair_end_front (b ∷ text) = cond (is_ascii_digit b) (suc (pair_end_front text)) (cond (is_colon b) (suc (digits_front text)) 0)
-
-abbrev pub pair_front : List ℕ → ℕ
-pair_front [] = 0
-pair_front (b ∷ text) = cond (is_ascii_digit b) (suc (pair_end_front text)) 0
-
-pair-end-front : (text : List ℕ) → IsLongestFront is_pair_end text (pair_end_front text)
-pair-end-front [] = front-end is_pair_end (58 ∷ 48 ∷ []) refl
-pair-end-front (b ∷ text) = elim (cases_Bool (is_ascii_digit b)) [
-  | inl here ↦ front-at is_pair_end (b ∷ text) (suc (pair_end_front text)) (pair_end_front (b ∷ text))
-      (front-cons is_pair_end b text (pair_end_front text) (front-same is_pair_end (λ t. is_pair_end (b ∷ t)) text (pair_end_front text) (λ t. sym (rw here refl)) (pair-end-front text)))
-      (rw here refl)
-  | inr other ↦ elim (cases_Bool (is_colon b)) [
-    | inl colon ↦ front-at is_pair_end (b ∷ text) (suc (digits_front text)) (pair_end_front (b ∷ text))
-        (front-cons is_pair_end b text (digits_front text) (front-same is_digits (λ t. is_pair_end (b ∷ t)) text (digits_front text) (λ t. sym (rw (other, colon) refl)) (digits-front text)))
-        (rw (other, colon) refl)
-    | inr neither ↦ front-at is_pair_end (b ∷ text) 0 (pair_end_front (b ∷ text)) (front-stop is_pair_end (58 ∷ 48 ∷ []) b text refl (λ t. rw (other, neither) refl)) (rw (other, neither) refl)
-  ]
-]
-
-pair-text-front : (text : List ℕ) → IsLongestFront is_pair_text text (pair_front text)
-pair-text-front [] = front-end is_pair_text (48 ∷ 58 ∷ 48 ∷ []) refl
-pair-text-front (b ∷ text) = elim (cases_Bool (is_ascii_digit b)) [
-  | inl here ↦ front-at is_pair_text (b ∷ text) (suc (pair_end_front text)) (pair_front (b ∷ text))
-      (front-cons is_pair_text b text (pair_end_front text) (front-same is_pair_end (λ t. is_pair_text (b ∷ t)) text (pair_end_front text) (λ t. sym (ap (λ d. d && is_pair_end t) here)) (pair-end-front text)))
-      (rw here refl)
-  | inr other ↦ front-at is_pair_text (b ∷ text) 0 (pair_front (b ∷ text)) (front-stop is_pair_text (48 ∷ 58 ∷ 48 ∷ []) b text refl (λ t. ap (λ d. d && is_pair_end t) other)) (rw other refl)
-]
-
-place-more : (b : ℕ) (t : List ℕ) → is_colon b ≡ false → position_or_len is_colon (b ∷ t) ≡ suc (position_or_len is_colon t)
-place-more b t other = ap (λ c. cond (not c) (1 + position_or_len is_colon t) 0) other ∙ omega arith
-
-first-more : (b : ℕ) (t : List ℕ) → is_colon b ≡ false → first_half (b ∷ t) ≡ b ∷ first_half t
-first-more b t other = ap (λ k. take k (b ∷ t)) (place-more b t other)
-
-second-more : (b : ℕ) (t : List ℕ) → is_colon b ≡ false → second_half (b ∷ t) ≡ second_half t
-second-more b t other =
-    let k : ℕ = position_or_len is_colon t in
-    let size : position_or_len is_colon (b ∷ t) + 1 ≡ suc (k + 1) = omega (arith, place-more b t other) in
-    ap (λ n. drop n (b ∷ t)) size
-
-pair-end-same : (t : List ℕ) → is_pair_end t ≡ (list_all is_ascii_digit (first_half t) && is_digits (second_half t))
-pair-end-same [] = refl
-pair-end-same (b ∷ t) = elim (cases_Bool (is_colon b)) [
-  | inl colon ↦ subst (λ c. is_pair_end (c ∷ t) ≡ (list_all is_ascii_digit (first_half (c ∷ t)) && is_digits (second_half (c ∷ t)))) (sym (eqb-true b 58 colon)) refl
-  | inr other ↦
-      ap (λ c. cond (is_ascii_digit b) (is_pair_end t) (c && is_digits t)) other
-      ∙ ap (λ x. cond (is_ascii_digit b) x false) (pair-end-same t)
-      ∙ chosen (is_ascii_digit b) (list_all is_ascii_digit (first_half t)) (is_digits (second_half t))
-      ∙ ap (λ half. list_all is_ascii_digit half && is_digits (second_half t)) (sym (first-more b t other))
-      ∙ ap (λ half. list_all is_ascii_digit (first_half (b ∷ t)) && is_digits half) (sym (second-more b t other))
-]
-  where
-    chosen : (a x y : Bool) → cond a (x && y) false ≡ ((a && x) && y)
-    chosen true x y = refl
-    chosen false x y = refl
-
-pub pair-same : (t : List ℕ) → is_pair_text t ≡ is_pair_shape t
-pair-same [] = refl
-pair-same (b ∷ t) = elim (cases_Bool (is_colon b)) [
-  | inl colon ↦ subst (λ c. is_pair_text (c ∷ t) ≡ is_pair_shape (c ∷ t)) (sym (eqb-true b 58 colon)) refl
-  | inr other ↦
-      ap (λ x. is_ascii_digit b && x) (pair-end-same t)
-      ∙ joined (is_ascii_digit b) (list_all is_ascii_digit (first_half t)) (is_digits (second_half t))
-      ∙ ap (λ x. x && is_digits (second_half t)) (sym (digits-more b (first_half t)))
-      ∙ ap (λ half. is_digits half && is_digits (second_half t)) (sym (first-more b t other))
-      ∙ ap (λ half. is_digits (first_half (b ∷ t)) && is_digits half) (sym (second-more b t other))
-]
-  where
-    joined : (a x y : Bool) → (a && (x && y)) ≡ ((a && x) && y)
-    joined true x y = refl
-    joined false x y = refl
-
-pub pair-front : (part : List ℕ) → IsLongestFront is_pair_shape part (pair_front part)
-pair-front part = front-same is_pair_text is_pair_shape part (pair_front part) pair-same (pair-text-front part)
-
 -- ---- labels
 
 abbrev pub label_front : List ℕ → ℕ
 label_front [] = 0
 label_front (b ∷ text) = cond (b == 47) 1 (digits_front (b ∷ text))
-
-or-true : (a : Bool) → (a || true) ≡ true
-or-true true = refl
-or-true false = refl
 
 pub label-front : (part : List ℕ) → IsLongestFront is_label part (label_front part)
 label-front [] = front-end is_label (48 ∷ []) refl

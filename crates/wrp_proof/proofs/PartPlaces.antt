@@ -1,11 +1,9 @@
 -- Where a part leaves its shape, by the number of digits with which it begins.
-use Rattle.std.proofs.Common.{inl, inr, arith, ◌≡◌, ℕ, ◌+◌, ◌<◌, ◌≤◌, zero, suc, Bool, true, false, cond, not, get_or, List, [], ◌∷◌, length, take, drop, refl, sym, ap, ◌∙◌, subst, drop-cons, add-one}
-use Rattle.std.proofs.lemmas.Bool.{cases_Bool, cases_lt, eqb-true, true≢false, false≢true}
-use Rattle.std.proofs.lemmas.List.Sums.{position_or_len_is}
+use Rattle.std.proofs.Common.{inl, inr, arith, ◌≡◌, ℕ, ◌+◌, ◌<◌, ◌≤◌, zero, suc, true, false, cond, get_or, List, [], ◌∷◌, length, refl, sym, ap, ◌∙◌}
+use Rattle.std.proofs.lemmas.Bool.{cases_Bool}
 use Rattle.std.specs.Char.{is_ascii_digit}
-use Rattle.std.specs.List.{prefix_len}
-use Rattle.wrp_proof.specs.Parts.{is_sign, is_colon}
-use Rattle.wrp_proof.proofs.PartFronts.{digits_front, step_end_front, step_front, pair_end_front, pair_front}
+use Rattle.wrp_proof.specs.Parts.{is_sign}
+use Rattle.wrp_proof.proofs.PartFronts.{digits_front, step_end_front, step_front}
 
 pub front-more : (b : ℕ) (t : List ℕ) → is_ascii_digit b ≡ true → digits_front (b ∷ t) ≡ suc (digits_front t)
 front-more b t here = ap (λ d. cond d (1 + digits_front t) 0) here ∙ omega arith
@@ -68,58 +66,4 @@ step-not (b ∷ t) d same never = elim (cases_Bool (is_ascii_digit b)) [
       sym (ap (λ x. cond x (suc (step_end_front t)) 0) here
       ∙ omega (arith, step-end-not t (digits_front t) refl (λ lt e. never (omega arith) (omega arith) (ap (λ k. is_sign (get_or (b ∷ t) k 0)) more ∙ e))))
   | inr other ↦ (same ∙ front-none b t other) ∙ sym (ap (λ x. cond x (suc (step_end_front t)) 0) other)
-]
-
--- ---- pairs
-
-pair-end-there : (t : List ℕ) (d : ℕ) → d ≡ digits_front t → d < length t → get_or t d 0 ≡ 58 → pair_end_front t ≡ d + 1 + digits_front (drop (d + 1) t)
-pair-end-there [] d same lt e = absurd (omega arith)
-pair-end-there (b ∷ t) zero same lt e = subst (λ c. pair_end_front (c ∷ t) ≡ 0 + 1 + digits_front t) (sym e) (omega arith)
-pair-end-there (b ∷ t) (suc d) same lt e = elim (cases_Bool (is_ascii_digit b)) [
-  | inl here ↦
-      let rest = pair-end-there t d (omega (arith, front-more b t here)) (omega arith) e in
-      let size : suc d + 1 ≡ suc (d + 1) = omega arith in
-      let back : digits_front (drop (suc d + 1) (b ∷ t)) ≡ digits_front (drop (d + 1) t) = ap (λ k. digits_front (drop k (b ∷ t))) size in
-      ap (λ x. cond x (suc (pair_end_front t)) (cond (is_colon b) (suc (digits_front t)) 0)) here ∙ omega (arith, rest, back)
-  | inr other ↦ absurd (omega (arith, front-none b t other))
-]
-
-pair-end-not : (t : List ℕ) (d : ℕ) → d ≡ digits_front t → (d < length t → get_or t d 0 ≡ 58 → ⊥) → pair_end_front t ≡ d
-pair-end-not [] d same never = sym same
-pair-end-not (b ∷ t) d same never = elim (cases_Bool (is_ascii_digit b)) [
-  | inl here ↦
-      let more : d ≡ suc (digits_front t) = same ∙ front-more b t here in
-      ap (λ x. cond x (suc (pair_end_front t)) (cond (is_colon b) (suc (digits_front t)) 0)) here
-      ∙ omega (arith, pair-end-not t (digits_front t) refl (λ lt e. never (omega arith) (ap (λ k. get_or (b ∷ t) k 0) more ∙ e)))
-  | inr other ↦
-      let none : d ≡ 0 = same ∙ front-none b t other in
-      ap (λ x. cond x (suc (pair_end_front t)) (cond (is_colon b) (suc (digits_front t)) 0)) other ∙ last none
-]
-  where
-    last : d ≡ 0 → cond (is_colon b) (suc (digits_front t)) 0 ≡ d
-    last none = elim (cases_Bool (is_colon b)) [
-      | inl colon ↦ absurd (never (omega arith) (ap (λ k. get_or (b ∷ t) k 0) none ∙ eqb-true b 58 colon))
-      | inr neither ↦ ap (λ s. cond s (suc (digits_front t)) 0) neither ∙ sym none
-    ]
-
-pub pair-there : (t : List ℕ) (d : ℕ) → d ≡ digits_front t → 0 < d → d < length t → get_or t d 0 ≡ 58 → d + 1 + digits_front (drop (d + 1) t) ≡ pair_front t
-pair-there [] d same some lt e = absurd (omega arith)
-pair-there (b ∷ t) zero same some lt e = absurd (omega arith)
-pair-there (b ∷ t) (suc d) same some lt e = elim (cases_Bool (is_ascii_digit b)) [
-  | inl here ↦
-      let rest = pair-end-there t d (omega (arith, front-more b t here)) (omega arith) e in
-      let size : suc d + 1 ≡ suc (d + 1) = omega arith in
-      let back : digits_front (drop (suc d + 1) (b ∷ t)) ≡ digits_front (drop (d + 1) t) = ap (λ k. digits_front (drop k (b ∷ t))) size in
-      sym (ap (λ x. cond x (suc (pair_end_front t)) 0) here ∙ omega (arith, rest, back))
-  | inr other ↦ absurd (omega (arith, front-none b t other))
-]
-
-pub pair-not : (t : List ℕ) (d : ℕ) → d ≡ digits_front t → (0 < d → d < length t → get_or t d 0 ≡ 58 → ⊥) → d ≡ pair_front t
-pair-not [] d same never = same
-pair-not (b ∷ t) d same never = elim (cases_Bool (is_ascii_digit b)) [
-  | inl here ↦
-      let more : d ≡ suc (digits_front t) = same ∙ front-more b t here in
-      sym (ap (λ x. cond x (suc (pair_end_front t)) 0) here
-      ∙ omega (arith, pair-end-not t (digits_front t) refl (λ lt e. never (omega arith) (omega arith) (ap (λ k. get_or (b ∷ t) k 0) more ∙ e))))
-  | inr other ↦ (same ∙ front-none b t other) ∙ sym (ap (λ x. cond x (suc (pair_end_front t)) 0) other)
 ]

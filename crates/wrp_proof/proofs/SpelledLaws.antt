@@ -1,5 +1,5 @@
 -- What a line spells that isn't a later one is a tour or a bound; and the rules of such a record as the checker tries them.
-use Rattle.std.proofs.Common.{◌≡◌, ℕ, ◌≤◌, ◌^◌, Bool, true, false, ◌&&◌, nat_le, int_lt, List, [], ◌∷◌, ◌++◌, Some, None, refl, sym, ap, ◌∙◌}
+use Rattle.std.proofs.Common.{◌≡◌, ℕ, Bool, true, false, ◌&&◌, int_lt, List, [], ◌∷◌, ◌++◌, Some, None, refl, sym, ap, ◌∙◌}
 use Rattle.std.proofs.lemmas.Bool.{false≢true}
 use Rattle.wrp_town.specs.declared.town.Town.{Town}
 use Rattle.wrp_proof.specs.declared.record.Record.{Record}

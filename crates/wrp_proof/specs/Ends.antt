@@ -1,6 +1,6 @@
 -- The parts of end lines, and the ends that they spell.
 use Rattle.std.specs.Prelude.{codes, ◌≡◌, ℕ, ◌^◌, ◌<◌, ◌≤◌, Bool, true, false, ◌&&◌, ◌||◌, if◌then◌else◌, nat_eq, List, [], ◌∷◌, length, Option, None, Some}
-use Rattle.std.specs.List.{before_first, after_first, slice_split, starts_with}
+use Rattle.std.specs.List.{slice_split, starts_with}
 use Rattle.std.specs.Str.{bytes_eq}
 use Rattle.wrp_proof.specs.declared.record.End.{End}
 use Rattle.wrp_proof.specs.declared.record.End.TheVariants.{Optimal, Infeasible, Unfinished}
@@ -56,10 +56,6 @@ end_of_parts (word ∷ numbers) = end_of_word word numbers
 abbrev pub end_in : List (List ℕ) → Option End
 end_in [] = None
 end_in (first ∷ others) = if bytes_eq first (codes "end") then end_of_parts others else None
-
--- two numbers with a space between them
-abbrev pub are_two : List ℕ → Bool
-are_two text = is_digits (before_first is_space text) && is_digits (after_first is_space text)
 
 -- the shapes of end lines: numbers are one or more digits
 abbrev pub are_numbers : List ℕ → List (List ℕ) → Bool

@@ -1,5 +1,5 @@
 -- The records that the checker judges so far: tours, and bounds with no negative reduced cost.
-use Rattle.std.specs.Prelude.{ℕ, Bool, true, false, ◌&&◌, ℤ, pos, int_le, int_lt, List, [], ◌∷◌, Option}
+use Rattle.std.specs.Prelude.{ℕ, Bool, true, false, ◌&&◌, pos, int_le, int_lt, List, [], ◌∷◌, Option}
 use Rattle.std.specs.List.{list_all}
 use Rattle.wrp_sums.specs.Duality.{reduced_cost}
 use Rattle.wrp_town.specs.declared.town.Town.{Town}

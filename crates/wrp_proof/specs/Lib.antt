@@ -8,6 +8,7 @@ pub mod Limits
 pub mod Proofs
 pub mod Judged
 pub mod Parts
+pub mod Numbers
 pub mod Shapes
 pub mod Fronts
 pub mod Spelling

@@ -1,5 +1,5 @@
 -- The one line of each record and of each end, without its line feed.
-use Rattle.std.specs.Prelude.{codes, ℕ, ◌≤◌, Bool, cond, if◌then◌else◌, List, [], ◌∷◌, ◌++◌, map}
+use Rattle.std.specs.Prelude.{codes, ℕ, if◌then◌else◌, List, [], ◌∷◌, ◌++◌, map}
 use Rattle.std.specs.Fmt.{decimal}
 use Rattle.std.specs.List.{flat_map}
 use Rattle.wrp_town.specs.declared.street.Step.{Step}

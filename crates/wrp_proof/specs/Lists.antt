@@ -1,12 +1,12 @@
 -- Valid lists of records, and the ends that agree with them.
-use Rattle.std.specs.Prelude.{ℕ, Bool, true, false, ◌&&◌, not, ◌==◌, ℤ, pos, List, [], ◌∷◌, length, Option, None, Some, is_some, is_none}
+use Rattle.std.specs.Prelude.{ℕ, Bool, true, false, ◌&&◌, not, ◌==◌, pos, List, [], ◌∷◌, length, is_none}
 use Rattle.std.specs.Option.{option_map_or}
 use Rattle.std.specs.List.{list_all}
 use Rattle.wrp_town.specs.declared.town.Town.{Town}
 use Rattle.wrp_proof.specs.declared.record.Record.{Record}
 use Rattle.wrp_proof.specs.declared.record.End.{End}
 use Rattle.wrp_proof.specs.declared.record.End.TheVariants.{Optimal, Infeasible, Unfinished}
-use Rattle.wrp_proof.specs.Nodes.{Standing, start, after, standing, open_nodes, lower}
+use Rattle.wrp_proof.specs.Nodes.{Standing, start, after, open_nodes, lower}
 use Rattle.wrp_proof.specs.Rules.{broken_rule, is_labels, int_eq}
 
 -- each of these records breaks no rule after those that stand and those before it

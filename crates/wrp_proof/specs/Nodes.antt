@@ -1,8 +1,8 @@
 -- What a list of records stands for: rows, nodes with their boxes and bounds, and the cheapest tour so far.
-use Rattle.std.specs.Prelude.{ℕ, zero, suc, ◌+◌, ◌*◌, Bool, true, false, cond, ◌&&◌, not, if◌then◌else◌, ◌==◌, nat_lt, nat_le, min, ℤ, pos, int_lt, List, [], ◌∷◌, ◌++◌, map, length, slice_index_or, Option, None, Some, is_some, is_none}
+use Rattle.std.specs.Prelude.{ℕ, zero, suc, ◌+◌, Bool, true, false, ◌&&◌, not, if◌then◌else◌, ◌==◌, min, ℤ, pos, int_lt, List, [], ◌∷◌, ◌++◌, length, slice_index_or, Option, None, Some}
 use Rattle.std.specs.Int.{int_min}
 use Rattle.std.specs.Option.{option_map, option_or, option_to_list, option_map_or}
-use Rattle.std.specs.List.{filter, fold, list_any, count_by}
+use Rattle.std.specs.List.{filter, fold, count_by}
 use Rattle.wrp_sums.specs.Rounding.{ceil_div}
 use Rattle.wrp_sums.specs.Duality.{Program, dual_value}
 use Rattle.wrp_town.specs.declared.town.Town.{Town}

@@ -1,5 +1,5 @@
 -- Proofs: a version line, the lines of a valid list, and the line of an end that agrees with it.
-use Rattle.std.specs.Prelude.{codes, ◌≡◌, ℕ, ◌+◌, ◌≤◌, ◌^◌, ◌⊎◌, Bool, true, List, [], ◌∷◌, ◌++◌, length}
+use Rattle.std.specs.Prelude.{codes, ◌≡◌, ℕ, ◌≤◌, ◌^◌, ◌⊎◌, true, List, [], ◌∷◌, ◌++◌, length}
 use Rattle.std.specs.List.{flat_map, AllByRecursion}
 use Rattle.wrp_town.specs.declared.town.Town.{Town}
 use Rattle.wrp_town.specs.Arcs.{is_small}

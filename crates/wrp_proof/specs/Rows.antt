@@ -1,5 +1,5 @@
 -- The rows of a list of records: sums of arcs that are at least a right side for every tour.
-use Rattle.std.specs.Prelude.{ℕ, ◌+◌, ◌-◌, ◌*◌, ◌/◌, ◌%◌, Bool, true, false, cond, ◌&&◌, ◌||◌, not, if◌then◌else◌, ◌==◌, nat_le, ℤ, pos, ◌+ℤ◌, ◌-ℤ◌, ◌*ℤ◌, List, [], ◌∷◌, ◌++◌, map, length, slice_index, slice_index_or, Option, None, Some, unsigned_abs}
+use Rattle.std.specs.Prelude.{ℕ, ◌+◌, ◌-◌, ◌*◌, ◌%◌, Bool, ◌&&◌, ◌||◌, not, if◌then◌else◌, ◌==◌, nat_le, ℤ, pos, ◌-ℤ◌, ◌*ℤ◌, List, ◌++◌, map, length, slice_index, slice_index_or, Option, None, Some, unsigned_abs}
 use Rattle.std.specs.Int.{abs_diff}
 use Rattle.std.specs.List.{list_any, list_all, count_by, range_with_len}
 use Rattle.wrp_sums.specs.Sums.{sum_over}

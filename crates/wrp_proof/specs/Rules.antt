@@ -1,10 +1,8 @@
 -- The rules that a record keeps after a list of records, each record's in their order.
-use Rattle.std.specs.Prelude.{ℕ, ◌+◌, ◌-◌, ◌*◌, ◌/◌, ◌%◌, ◌<◌, ◌^◌, Bool, true, false, cond, ◌&&◌, ◌||◌, not, if◌then◌else◌, ◌==◌, nat_eq, nat_lt, nat_le, ℤ, pos, int_lt, int_le, List, [], ◌∷◌, ◌++◌, map, length, slice_index, slice_index_or, slice_get, Option, None, Some, is_some, is_none}
+use Rattle.std.specs.Prelude.{ℕ, ◌-◌, ◌*◌, ◌%◌, ◌^◌, Bool, true, false, cond, ◌&&◌, ◌||◌, not, if◌then◌else◌, ◌==◌, nat_lt, nat_le, ℤ, pos, int_lt, int_le, List, [], ◌∷◌, map, length, slice_index, slice_get, Option, None, Some}
 use Rattle.std.specs.Option.{option_map_or}
-use Rattle.std.specs.List.{filter, list_any, list_all, sum_by, count_by, last_or, range_with_len}
+use Rattle.std.specs.List.{filter, list_any, list_all, sum_by, count_by, last_or}
 use Rattle.wrp_sums.specs.Rounding.{ceil_div}
-use Rattle.wrp_town.specs.declared.street.Street.{Street}
-use Rattle.wrp_town.specs.declared.street.Step.{Step}
 use Rattle.wrp_town.specs.declared.town.Town.{Town}
 use Rattle.wrp_town.specs.Streets.{demands_at}
 use Rattle.wrp_town.specs.Arcs.{is_legal, tail_of, head_of, legal_arcs, junctions, demands, cost_or_zero}
@@ -14,7 +12,7 @@ use Rattle.wrp_proof.specs.declared.record.Record.TheVariants.{Tour, Conn, Odd, 
 use Rattle.wrp_proof.specs.declared.rule.Rule.{Rule}
 use Rattle.wrp_proof.specs.declared.rule.Rule.TheVariants as rules
 use Rattle.wrp_proof.specs.Sets.{leaves, crossing_demands, is_parted}
-use Rattle.wrp_proof.specs.Rows.{Row, is_chain, is_wide, round_row}
+use Rattle.wrp_proof.specs.Rows.{is_chain, is_wide, round_row}
 use Rattle.wrp_proof.specs.Nodes.{Node, Standing, node_at, bound_value, empty_value, is_open, is_below}
 
 -- numbers of a strictly ascending list, each at most that

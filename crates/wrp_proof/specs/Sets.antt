@@ -1,7 +1,6 @@
 -- Sets of junctions, and what crosses them.
-use Rattle.std.specs.Prelude.{ℕ, ◌/◌, ◌*◌, ◌+◌, Bool, true, false, ◌&&◌, ◌||◌, not, ◌==◌, nat_eq, nat_le, List, [], ◌∷◌, length, slice_index, slice_index_or, Option, None, Some}
-use Rattle.std.specs.List.{list_any, list_all, count_by}
-use Rattle.wrp_town.specs.declared.street.Street.{Street}
+use Rattle.std.specs.Prelude.{ℕ, Bool, ◌&&◌, ◌||◌, not, nat_eq, List, slice_index}
+use Rattle.std.specs.List.{list_any, count_by}
 use Rattle.wrp_town.specs.declared.town.Town.{Town}
 use Rattle.wrp_town.specs.Streets.{forward_arc}
 use Rattle.wrp_town.specs.Arcs.{tail_of, head_of, demands, is_required}

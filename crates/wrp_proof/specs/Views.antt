@@ -14,6 +14,7 @@ use Rattle.wrp_proof.specs.Rules.{has_number_rules}
 use Rattle.wrp_proof.specs.Parts.{is_spaced, parts_of}
 use Rattle.wrp_proof.specs.Shapes.{has_parts_shape}
 use Rattle.wrp_proof.specs.Fronts.{IsLongestFront}
+use Rattle.wrp_proof.specs.Numbers.{IsFirstBadNumber}
 use Rattle.wrp_proof.specs.Spelling.{record_in}
 
 -- the record with the fields and the lists of a view
@@ -81,16 +82,17 @@ pub record IsLineOf (item : Record) (line : List ℕ) : Type 0 where
   pub text : line_of item ≡ line
   pub numbers : has_number_rules item ≡ true
 
--- the fault of a line: Form where it isn't in its shape, at the end of its longest front, else Number
+-- the fault of a line: Form where it isn't in its shape, at the end of its longest front, else Number, at the
+-- first number that breaks a rule
 abbrev pub IsFaultOf : List ℕ → ViewFault → Type 0
 IsFaultOf line (faults.Form at) = (length line ≤ 2 ^ 28) × (has_shape line ≡ false) × (at ≤ length line) × IsLongestFront has_shape line at
-IsFaultOf line (faults.Number at) = (length line ≤ 2 ^ 28) × (has_shape line ≡ true) × (at ≤ length line)
+IsFaultOf line (faults.Number at) = (length line ≤ 2 ^ 28) × (has_shape line ≡ true) × (at ≤ length line) × IsFirstBadNumber line at
 IsFaultOf line faults.Long = 2 ^ 28 < length line
 
 -- the fault of a line as a reader of records says it, who may want memory
 abbrev pub IsLineFaultOf : List ℕ → LineFault → Type 0
 IsLineFaultOf line (line_faults.Form at) = (length line ≤ 2 ^ 28) × (has_shape line ≡ false) × (at ≤ length line) × IsLongestFront has_shape line at
-IsLineFaultOf line (line_faults.Number at) = (length line ≤ 2 ^ 28) × (has_shape line ≡ true) × (at ≤ length line)
+IsLineFaultOf line (line_faults.Number at) = (length line ≤ 2 ^ 28) × (has_shape line ≡ true) × (at ≤ length line) × IsFirstBadNumber line at
 IsLineFaultOf line line_faults.Long = 2 ^ 28 < length line
 IsLineFaultOf line line_faults.Memory = ⊤
 

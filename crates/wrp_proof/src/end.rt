@@ -3,13 +3,14 @@ ghost use Rattle.std.specs.Prelude.{codes, ℕ, slice_index, ◌≡◌, ◌∷�
 ghost use Rattle.std.specs.List.{slice_split};
 ghost use Rattle.std.specs.Str.{bytes_eq};
 ghost use Rattle.wrp_proof.specs.declared.record.End.{End};
+ghost use Rattle.wrp_proof.specs.declared.fault.LineFault.{LineFault};
 ghost use Rattle.wrp_proof.specs.Parts.{parts_of, is_space};
 ghost use Rattle.wrp_proof.specs.EndFaults.{IsFirstBadCost};
 ghost use Rattle.wrp_proof.specs.Fronts.{IsLongestFront};
-ghost use Rattle.wrp_proof.specs.Ends.{are_two, optimal_in, infeasible_in, unfinished_in, end_of_word, end_in, are_numbers, has_end_shape, spelled_end, is_later_end as is_later_line, IsEndLineOf, IsEndFault};
+ghost use Rattle.wrp_proof.specs.Ends.{optimal_in, infeasible_in, unfinished_in, end_of_word, end_in, are_numbers, has_end_shape, spelled_end, is_later_end as is_later_line, IsEndLineOf, IsEndFault};
 
 use crate::fault::LineFault;
-use crate::place::digits_before;
+use crate::place::{digits_before, two_numbers};
 use crate::record::End;
 use crate::text::{first_part, is_digits_text, read_count, split_part};
 
@@ -27,6 +28,8 @@ pub fn read_end(line: &[u8]) -> Result<End, LineFault>
     ensures spelled { IfOk result (λ end. spelled_end line.now ≡ Some end) }
     ensures short { IfOk result (λ end. length line.now ≤ 2 ^ 28) }
     ensures fault { IfErr result (λ fault. IsEndFault line.now fault) }
+    // No other fault is right, and none at another place.
+    ensures one { IfErr result (λ fault. (other : LineFault) → IsEndFault line.now other → fault ≡ other) }
     // No end is spelled by a line that is refused, unless it is long.
     ensures only { IfErr result (λ fault. (end : End) → IsEndLineOf end line.now → length line.now ≤ 2 ^ 28 → ⊥) }
     ensures none { IfErr result (λ fault. length line.now ≤ 2 ^ 28 → spelled_end line.now ≡ None) }
@@ -176,22 +179,9 @@ fn form_place(line: &[u8]) -> usize
     }
     let unfinished = shared(line, b"end unfinished ");
     if unfinished == 15 {
-        return 15 + two_numbers(&line[15..]);
+        return 15 + two_numbers(&line[15..], b' ');
     }
     optimal.max(unfinished).max(shared(line, b"end infeasible"))
-}
-
-/// The number of bytes with which a text begins as two numbers with a space between them do.
-fn two_numbers(text: &[u8]) -> usize
-    ensures within { result ≤ length text.now }
-    ensures front { IsLongestFront are_two text.now result }
-{
-    let low = digits_before(text);
-    if low > 0 && low < text.len() && text[low] == b' ' {
-        low + 1 + digits_before(&text[low + 1..])
-    } else {
-        low
-    }
 }
 
 /// The place of the first number of an end line that breaks a rule.

@@ -107,7 +107,7 @@ fn are_ascending(line: &[u8]) -> bool
 }
 
 /// The least number that may come after this one, where this is a number and at least `low`.
-fn next_low(part: &[u8], low: u64) -> Option<u64>
+pub(crate) fn next_low(part: &[u8], low: u64) -> Option<u64>
     ensures { result ≡ (if is_index_part part.now && nat_le low (number_of part.now) then Some (number_of part.now + 1) else None) }
 {
     let number = u64::from(read_index(part)?);

@@ -1,10 +1,10 @@
 //! Where a line that has no view breaks the shape of its kind. Nothing here takes memory.
-ghost use Rattle.std.specs.Prelude.{◌≡◌, ◌<◌, ◌≤◌, ◌+◌, ◌^◌, ◌∷◌, not, true, is_some, length, IfSome};
+ghost use Rattle.std.specs.Prelude.{◌≡◌, ◌<◌, ◌≤◌, ◌+◌, ◌^◌, ◌∷◌, not, true, false, is_some, length, IfSome};
 ghost use Rattle.std.specs.Char.{is_ascii_digit};
 ghost use Rattle.std.specs.List.{list_all, prefix_len};
 ghost use Rattle.wrp_proof.specs.Fronts.{IsLongestFront, is_left};
 ghost use Rattle.wrp_proof.specs.Views.{has_shape};
-ghost use Rattle.wrp_proof.specs.Parts.{parts_of, is_spaced, is_digits, is_step_shape, is_pair_shape};
+ghost use Rattle.wrp_proof.specs.Parts.{parts_of, is_spaced, is_digits, is_step_shape, is_pair_shape, are_two};
 ghost use Rattle.wrp_proof.specs.Shapes.{is_nothing, is_label, has_labels_shape, has_tail_shape, one_then, two_then, three_then, has_parts_shape};
 
 use crate::labels::is_slash_text;
@@ -269,7 +269,7 @@ fn pairs_form(line: &[u8]) -> Option<usize>
     let mut left = line;
     while let Some((part, others)) = split_part(left) {
         if !is_pair_text(part) {
-            return Some(line.len() - left.len() + 1 + pair_form(part));
+            return Some(line.len() - left.len() + 1 + two_numbers(part, b':'));
         }
         left = others;
     }
@@ -284,14 +284,15 @@ fn is_pair_text(part: &[u8]) -> bool
     is_digits_text(first) && is_digits_text(second)
 }
 
-/// The place at which a part breaks the shape of a pair.
-fn pair_form(part: &[u8]) -> usize
-    ensures within { result ≤ length part.now }
-    ensures front { IsLongestFront is_pair_shape part.now result }
+/// The number of bytes with which a text begins as two numbers with this byte between them do.
+pub(crate) fn two_numbers(text: &[u8], between: u8) -> usize
+    requires { is_ascii_digit between ≡ false }
+    ensures within { result ≤ length text.now }
+    ensures front { IsLongestFront (are_two between) text.now result }
 {
-    let first = digits_before(part);
-    if first > 0 && first < part.len() && part[first] == b':' {
-        first + 1 + digits_before(&part[first + 1..])
+    let first = digits_before(text);
+    if first > 0 && first < text.len() && text[first] == between {
+        first + 1 + digits_before(&text[first + 1..])
     } else {
         first
     }

@@ -1,7 +1,11 @@
 //! Where a line of a record breaks a rule of numbers. Nothing here takes memory.
-ghost use Rattle.std.specs.Prelude.{◌<◌, ◌≤◌, ◌^◌, length, IfErr};
+ghost use Rattle.std.specs.Prelude.{◌≡◌, ◌<◌, ◌≤◌, ◌+◌, ◌-◌, ◌^◌, ◌&&◌, if◌then◌else◌, true, false, length, IfOk, IfErr};
+ghost use Rattle.std.specs.List.{list_all};
+ghost use Rattle.wrp_proof.specs.Parts.{parts_of, first_half, second_half, number_of, is_step, is_from_one_part, are_set_parts};
+ghost use Rattle.wrp_proof.specs.Numbers.{keeps_then, is_in_range, others_keep_rules, are_labels, are_few_pairs, is_next_first, keeps_rules, IsPlaceOfBad};
 
 use crate::labels::is_slash_text;
+use crate::numbers::next_low;
 use crate::text::{halves, read_count, read_from_one, read_index, read_step, split_part};
 
 /// The range of one of the first numbers of a record's line.
@@ -20,8 +24,10 @@ enum Range {
 enum Others {
     /// Steps of a tour.
     Steps,
-    /// At most 4,096 pairs, their second numbers from 1 to `most`.
-    Multipliers { most: u64 },
+    /// At most 4,096 pairs, their second numbers from 1 to 2^40.
+    RoundMultipliers,
+    /// At most 4,096 pairs, their second numbers from 1 to 2^60.
+    Multipliers,
     /// Pairs, their second numbers from 1 to 2^72.
     Pairs,
     /// Ascending numbers.
@@ -33,39 +39,34 @@ enum Others {
 /// The place of the first number that breaks a rule, where the line has this letter and goes on with
 /// `left`.
 pub(crate) fn number_place(letter: u8, left: &[u8]) -> usize
-    ensures { result ≤ length left.now }
+    ensures within { result ≤ length left.now }
+    ensures first { IsPlaceOfBad (keeps_rules letter) left.now result }
 {
     let count = Range::Count;
     let index = Range::Index;
-    let mult = Others::Multipliers { most: 1 << 60 };
+    let divisor = Range::FromOne { most: 1 << 20 };
+    let bound_den = Range::FromOne { most: 1 << 40 };
+    let point_den = Range::FromOne { most: 1 << 60 };
     match letter {
         b't' => after_one(left, count, Others::Steps),
         b'c' => after_two(left, index, index, Others::Set),
         b'o' => others_number(left, Others::Set),
-        b'r' => after_one(left, up_to(20), Others::Multipliers { most: 1 << 40 }),
+        b'r' => after_one(left, divisor, Others::RoundMultipliers),
         b'k' => after_one(left, index, Others::Indexes),
-        b'b' => after_two(left, count, up_to(40), mult),
-        b'e' => after_one(left, count, mult),
+        b'b' => after_two(left, count, bound_den, Others::Multipliers),
+        b'e' => after_one(left, count, Others::Multipliers),
         b'a' => after_three(left, count, index, index, Others::Set),
-        b'p' => after_two(left, count, up_to(60), Others::Pairs),
+        b'p' => after_two(left, count, point_den, Others::Pairs),
         b'z' => after_one(left, count, Others::Indexes),
         b's' => after_three(left, count, index, index, Others::Indexes),
         _ => others_number(left, Others::Indexes),
     }
 }
 
-/// From 1 to a power of 2.
-fn up_to(exponent: u32) -> Range
-    requires { exponent < 64 }
-{
-    Range::FromOne {
-        most: 1 << exponent,
-    }
-}
-
 /// The place of the first number that breaks a rule, among three numbers and others.
 fn after_three(left: &[u8], one: Range, two: Range, three: Range, others: Others) -> usize
-    ensures { result ≤ length left.now }
+    ensures within { result ≤ length left.now }
+    ensures first { IsPlaceOfBad (keeps_then (is_in_range one) (keeps_then (is_in_range two) (keeps_then (is_in_range three) (others_keep_rules others)))) left.now result }
 {
     let Some((number, behind)) = split_part(left) else {
         return 0;
@@ -78,7 +79,8 @@ fn after_three(left: &[u8], one: Range, two: Range, three: Range, others: Others
 
 /// The place of the first number that breaks a rule, among two numbers and others.
 fn after_two(left: &[u8], one: Range, two: Range, others: Others) -> usize
-    ensures { result ≤ length left.now }
+    ensures within { result ≤ length left.now }
+    ensures first { IsPlaceOfBad (keeps_then (is_in_range one) (keeps_then (is_in_range two) (others_keep_rules others))) left.now result }
 {
     let Some((number, behind)) = split_part(left) else {
         return 0;
@@ -91,7 +93,8 @@ fn after_two(left: &[u8], one: Range, two: Range, others: Others) -> usize
 
 /// The place of the first number that breaks a rule, among a number and others.
 fn after_one(left: &[u8], one: Range, others: Others) -> usize
-    ensures { result ≤ length left.now }
+    ensures within { result ≤ length left.now }
+    ensures first { IsPlaceOfBad (keeps_then (is_in_range one) (others_keep_rules others)) left.now result }
 {
     let Some((number, behind)) = split_part(left) else {
         return 0;
@@ -103,7 +106,9 @@ fn after_one(left: &[u8], one: Range, others: Others) -> usize
 }
 
 /// Whether a part is a number in this range.
-fn is_within(part: &[u8], range: Range) -> bool {
+fn is_within(part: &[u8], range: Range) -> bool
+    ensures { result ≡ is_in_range range part.now }
+{
     match range {
         Range::Count => read_count(part).is_some(),
         Range::Index => read_index(part).is_some(),
@@ -113,11 +118,13 @@ fn is_within(part: &[u8], range: Range) -> bool {
 
 /// The place of the first number that breaks a rule, among what follows the first numbers.
 fn others_number(left: &[u8], others: Others) -> usize
-    ensures { result ≤ length left.now }
+    ensures within { result ≤ length left.now }
+    ensures first { IsPlaceOfBad (others_keep_rules others) left.now result }
 {
     match others {
         Others::Steps => steps_number(left),
-        Others::Multipliers { most } => pairs_number(left, u128::from(most), 4096),
+        Others::RoundMultipliers => pairs_number(left, 1 << 40, 4096),
+        Others::Multipliers => pairs_number(left, 1 << 60, 4096),
         Others::Pairs => pairs_number(left, 1 << 72, left.len()),
         Others::Set => set_number(left),
         Others::Indexes => indexes_number(left),
@@ -126,7 +133,8 @@ fn others_number(left: &[u8], others: Others) -> usize
 
 /// The place of the first number that breaks a rule, among numbers and perhaps a slash.
 fn indexes_number(line: &[u8]) -> usize
-    ensures { result ≤ length line.now }
+    ensures within { result ≤ length line.now }
+    ensures first { IsPlaceOfBad are_labels line.now result }
 {
     let mut left = line;
     while let Some((part, others)) = split_part(left) {
@@ -140,14 +148,15 @@ fn indexes_number(line: &[u8]) -> usize
 
 /// The place of the first number that breaks a rule, among ascending numbers.
 fn set_number(line: &[u8]) -> usize
-    ensures { result ≤ length line.now }
+    ensures within { result ≤ length line.now }
+    ensures first { IsPlaceOfBad are_set_parts line.now result }
 {
     let mut left = line;
     let mut low = 0;
     while let Some((part, others)) = split_part(left) {
-        match read_index(part) {
-            Some(number) if u64::from(number) >= low => low = u64::from(number) + 1,
-            _ => return line.len() - left.len() + 1,
+        match next_low(part, low) {
+            Some(next) => low = next,
+            None => return line.len() - left.len() + 1,
         }
         left = others;
     }
@@ -156,7 +165,8 @@ fn set_number(line: &[u8]) -> usize
 
 /// The place of the first number of steps that breaks a rule.
 fn steps_number(line: &[u8]) -> usize
-    ensures { result ≤ length line.now }
+    ensures within { result ≤ length line.now }
+    ensures first { IsPlaceOfBad (list_all is_step) line.now result }
 {
     let mut left = line;
     while let Some((part, others)) = split_part(left) {
@@ -168,10 +178,11 @@ fn steps_number(line: &[u8]) -> usize
     line.len()
 }
 
-/// The place of the first number of pairs that breaks a rule, where there is room for no more.
+/// The place of the first number of pairs that breaks a rule, where there is room for so many.
 fn pairs_number(line: &[u8], most: u128, room: usize) -> usize
     requires { most < 2 ^ 99 }
-    ensures { result ≤ length line.now }
+    ensures within { result ≤ length line.now }
+    ensures first { 0 < most → IsPlaceOfBad (are_few_pairs most room) line.now result }
 {
     let mut left = line;
     let mut room = room;
@@ -190,15 +201,21 @@ fn pairs_number(line: &[u8], most: u128, room: usize) -> usize
 /// The least first number of the next pair, or the place of this pair's first number that breaks a rule.
 fn pair_number(part: &[u8], most: u128, low: u64, room: usize) -> Result<u64, usize>
     requires { most < 2 ^ 99 }
-    ensures { IfErr result (λ at. at ≤ length part.now) }
+    ensures within { IfErr result (λ at. at ≤ length part.now) }
+    ensures next { IfOk result (λ next. ((is_next_first low room part.now && is_from_one_part most (second_half part.now)) ≡ true)
+        × (next ≡ number_of (first_half part.now) + 1)) }
+    ensures bad { IfErr result (λ at. (is_next_first low room part.now && is_from_one_part most (second_half part.now)) ≡ false) }
+    ensures place { IfErr result (λ at. at ≡ (if is_next_first low room part.now then length part.now - length (second_half part.now) else 0)) }
 {
     let (first, second) = halves(part);
-    let row = match read_index(first) {
-        Some(row) if room > 0 && u64::from(row) >= low => u64::from(row),
-        _ => return Err(0),
+    if room == 0 {
+        return Err(0);
+    }
+    let Some(next) = next_low(first, low) else {
+        return Err(0);
     };
     if read_from_one(second, most).is_none() {
         return Err(part.len() - second.len());
     }
-    Ok(row + 1)
+    Ok(next)
 }

@@ -2,6 +2,7 @@
 ghost use Rattle.std.specs.Prelude.{◌≡◌, ◌∷◌, ℕ, ◌^◌, ◌≤◌, List, Some, None, true, false, length, IfOk, IfErr};
 ghost use Rattle.std.specs.Option.{option_map};
 ghost use Rattle.wrp_proof.specs.declared.record.Record.{Record};
+ghost use Rattle.wrp_proof.specs.declared.views.ViewFault.{ViewFault};
 ghost use Rattle.wrp_proof.specs.Parts.{is_spaced, parts_of};
 ghost use Rattle.wrp_proof.specs.Spelling.{record_in, tour_in, conn_in, odd_in, round_in, kc_in, bound_in, empty_in, apart_in, point_in, blind_in, split_in, labels_in};
 ghost use Rattle.wrp_proof.specs.Fronts.{IsLongestFront};
@@ -24,6 +25,8 @@ pub fn view(line: &[u8]) -> Result<View<'_>, ViewFault>
     ensures spelled { IfOk result (λ v. record_spelled line.now ≡ Some (record_of v)) }
     ensures short { IfOk result (λ v. length line.now ≤ 2 ^ 28) }
     ensures fault { IfErr result (λ fault. IsFaultOf line.now fault) }
+    // No other fault is right, and none at another place.
+    ensures one { IfErr result (λ fault. (other : ViewFault) → IsFaultOf line.now other → fault ≡ other) }
     // No record is spelled by a line that is refused, unless it is long.
     ensures only { IfErr result (λ fault. (item : Record) → IsLineOf item line.now → length line.now ≤ 2 ^ 28 → ⊥) }
     ensures none { IfErr result (λ fault. length line.now ≤ 2 ^ 28 → record_spelled line.now ≡ None) }
@@ -239,7 +242,8 @@ fn read_labels(left: &[u8]) -> Option<View<'_>>
 
 /// The fault of a line that spells no record.
 fn fault_of(line: &[u8]) -> ViewFault
-    requires { length line.now ≤ 2 ^ 28 }
+    requires short { length line.now ≤ 2 ^ 28 }
+    requires none { record_spelled line.now ≡ None }
     ensures { IsFaultOf line.now result }
 {
     let Some((letter, rest)) = line.split_first() else {

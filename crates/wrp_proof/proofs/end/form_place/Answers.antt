@@ -1,9 +1,9 @@
-use Rattle.std.proofs.Common.{arith, codes, ◌≡◌, ◌+◌, ◌-◌, length, take, drop, ap, sym, subst, ◌∙◌}
+use Rattle.std.proofs.Common.{arith, codes, ◌+◌, ◌-◌, length, drop, ap, sym, subst, ◌∙◌}
 use Rattle.std.proofs.lemmas.List.{take_all, length-drop}
-use Rattle.wrp_proof.specs.Ends.{are_two}
+use Rattle.wrp_proof.specs.Parts.{are_two}
 use Rattle.wrp_proof.specs.Fronts.{IsLongestFront}
 use Rattle.wrp_proof.proofs.PartFronts.{digits_front}
-use Rattle.wrp_proof.proofs.EndFronts.{shared_front, shared-counted, optimal-case, unfinished-case, other-case}
+use Rattle.wrp_proof.proofs.EndFronts.{shared-counted, optimal-case, unfinished-case, other-case}
 use Rattle.wrp_proof.proofs.end.form_place.Goals as goal
 
 pub returns-then-optimal-eq12-clause-front : goal.returns-then-optimal-eq12-clause-front
@@ -21,7 +21,7 @@ returns-then-unfinished-eq15-clause-front c =
     let s = c.shared-unfinished in
     let same = shared-counted (codes "end unfinished ") line s.result s.ensures.same s.ensures.text s.ensures.line s.ensures.longest in
     let rest = drop 15 line in
-    let numbers = subst (λ t. IsLongestFront are_two t c.two_numbers.result) (take_all (length line - 15) rest (omega (arith, length-drop 15 line))) c.two_numbers.ensures.front in
+    let numbers = subst (λ t. IsLongestFront (are_two 32) t c.two_numbers.result) (take_all (length line - 15) rest (omega (arith, length-drop 15 line))) c.two_numbers.ensures.front in
     unfinished-case line c.two_numbers.result (15 + c.two_numbers.result) (sym same ∙ c.if-unfinished-eq15.true) numbers (omega arith)
 
 pub returns-clause-front : goal.returns-clause-front

@@ -1,9 +1,10 @@
-use Rattle.std.proofs.Common.{arith, codes, ◌≡◌, ◌<◌, ◌-◌, ◌+◌, ◌∷◌, false, true, length, take, drop, ap, sym, ◌∙◌, add-one}
+use Rattle.std.proofs.Common.{arith, codes, ◌≡◌, ◌-◌, ◌∷◌, length, take, drop, ap, sym, ◌∙◌}
 use Rattle.std.proofs.lemmas.List.{take_all, take_at, length-drop, length-append}
 use Rattle.wrp_proof.specs.Parts.{is_count_part, number_of}
 use Rattle.wrp_proof.proofs.PartFronts.{digits_front}
-use Rattle.wrp_proof.proofs.EndFronts.{shared_front, shared-counted}
-use Rattle.wrp_proof.proofs.EndNumbers.{optimal-number, unfinished-numbers, low-number, high-number, no-number, read-false, read-true}
+use Rattle.wrp_proof.proofs.EndFronts.{shared-counted}
+use Rattle.wrp_proof.proofs.EndNumbers.{optimal-number, unfinished-numbers, low-number, high-number, no-number}
+use Rattle.wrp_proof.proofs.Guards.{read-none, read-some}
 use Rattle.wrp_proof.proofs.end.number_place.Goals as goal
 
 pub returns-then-shared-eq12-clause-first : goal.returns-then-shared-eq12-clause-first
@@ -33,7 +34,7 @@ returns-then-is_none-clause-first c =
     let all = take_all (length line - 15) (drop 15 line) (omega (arith, length-drop 15 line)) in
     let size = c.digits_before-low.ensures.digits ∙ ap digits_front all ∙ u.size in
     let arg : take d (take (length line - 15) (drop 15 line)) ≡ u.low = ap (take d) all ∙ ap (take d) u.rest ∙ take_at u.low (32 ∷ u.high) d (sym size) in
-    let bad = read-false (is_count_part (take d (take (length line - 15) (drop 15 line)))) (number_of (take d (take (length line - 15) (drop 15 line)))) c.read_count.result c.is_none.result c.read_count.ensures c.is_none.ensures c.if-is_none.true in
+    let bad = read-none (is_count_part (take d (take (length line - 15) (drop 15 line)))) (number_of (take d (take (length line - 15) (drop 15 line)))) c.read_count.result c.is_none.result c.read_count.ensures c.is_none.ensures c.if-is_none.true in
     low-number line u (sym (ap is_count_part arg) ∙ bad)
 
 pub returns-else-is_none-clause-first : goal.returns-else-is_none-clause-first
@@ -46,6 +47,6 @@ returns-else-is_none-clause-first c =
     let all = take_all (length line - 15) (drop 15 line) (omega (arith, length-drop 15 line)) in
     let size = c.digits_before-low.ensures.digits ∙ ap digits_front all ∙ u.size in
     let arg : take d (take (length line - 15) (drop 15 line)) ≡ u.low = ap (take d) all ∙ ap (take d) u.rest ∙ take_at u.low (32 ∷ u.high) d (sym size) in
-    let good = read-true (is_count_part (take d (take (length line - 15) (drop 15 line)))) (number_of (take d (take (length line - 15) (drop 15 line)))) c.read_count.result c.is_none.result c.read_count.ensures c.is_none.ensures c.if-is_none.false in
+    let good = read-some (is_count_part (take d (take (length line - 15) (drop 15 line)))) (number_of (take d (take (length line - 15) (drop 15 line)))) c.read_count.result c.is_none.result c.read_count.ensures c.is_none.ensures c.if-is_none.false in
     high-number line u c.min.result (sym (ap is_count_part arg) ∙ good)
     (omega (arith, size, c.min.ensures, ap length u.rest, length-drop 15 line, length-append u.low (32 ∷ u.high)))

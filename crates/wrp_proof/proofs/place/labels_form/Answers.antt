@@ -1,6 +1,5 @@
-use Rattle.std.proofs.Common.{arith, codes, refl, ◌≡◌, ◌+◌, ◌-◌, ◌&&◌, cond, length, sym, ap, ◌∙◌, List, [], ◌∷◌}
-use Rattle.std.specs.List.{list_all}
-use Rattle.wrp_proof.specs.Parts.{parts_of, is_digits}
+use Rattle.std.proofs.Common.{arith, codes, refl, ◌+◌, length, sym, ap, ◌∙◌, [], ◌∷◌}
+use Rattle.wrp_proof.specs.Parts.{parts_of}
 use Rattle.wrp_proof.specs.Shapes.{has_labels_shape}
 use Rattle.wrp_proof.proofs.Fronts.{left-cut}
 use Rattle.wrp_proof.proofs.LeftFronts.{labels-break, slash-pass, label-pass, empty-front, lifts-more, lifts-place}

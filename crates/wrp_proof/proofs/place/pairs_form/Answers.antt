@@ -1,4 +1,4 @@
-use Rattle.std.proofs.Common.{arith, ◌≡◌, ◌+◌, ◌&&◌, length, sym, ap, ◌∙◌}
+use Rattle.std.proofs.Common.{arith, ◌+◌, ◌&&◌, sym, ap, ◌∙◌}
 use Rattle.std.specs.List.{list_all}
 use Rattle.wrp_proof.specs.Parts.{parts_of, is_pair_shape}
 use Rattle.wrp_proof.proofs.Fronts.{left-cut}
@@ -9,9 +9,9 @@ pub returns-then-not-is_pair_text-clause-front : goal.returns-then-not-is_pair_t
 returns-then-not-is_pair_text-clause-front c =
     let h = c.loop-part.invariant.lifts in
     let cut = left-cut c.loop-part.left.now c.in-Some.part.now c.in-Some.others.now h.spaced c.in-Some.ensures.some c.in-Some.ensures.spaced in
-    lifts-place (list_all is_pair_shape) c.args.line.now c.loop-part.left.now (1 + c.pair_form.result) _ h
-    (pairs-break c.loop-part.left.now c.in-Some.part.now c.in-Some.others.now c.pair_form.result (1 + c.pair_form.result) cut
-    (sym c.is_pair_text.ensures ∙ c.if-not-is_pair_text.true) c.pair_form.ensures.front (omega arith))
+    lifts-place (list_all is_pair_shape) c.args.line.now c.loop-part.left.now (1 + c.two_numbers.result) _ h
+    (pairs-break c.loop-part.left.now c.in-Some.part.now c.in-Some.others.now c.two_numbers.result (1 + c.two_numbers.result) cut
+    (sym c.is_pair_text.ensures ∙ c.if-not-is_pair_text.true) c.two_numbers.ensures.front (omega arith))
     (omega arith)
 
 pub loop-part-preserved : goal.loop-part-preserved

@@ -2,6 +2,7 @@ use Rattle.std.proofs.Common.{◌≡◌, Some, None, sym, ◌∙◌}
 use Rattle.wrp_proof.specs.declared.record.Record.{Record}
 use Rattle.wrp_proof.specs.Views.{record_of}
 use Rattle.wrp_proof.proofs.LineLaws.{spelled-line, line-spelled}
+use Rattle.wrp_proof.proofs.OneFault.{one-fault}
 use Rattle.wrp_proof.proofs.reading.view.Goals as goal
 
 pub returns-in-Some-clause-found : goal.returns-in-Some-clause-found
@@ -12,3 +13,6 @@ returns-in-None-clause-only c = λ item line short. clash item (c.in-None.ensure
   where
     clash : (item : Record) → None ≡ Some item → ⊥
     clash item e = cc
+
+pub returns-in-None-clause-one : goal.returns-in-None-clause-one
+returns-in-None-clause-one c = λ other h. one-fault c.args.line.now c.fault_of.result other c.fault_of.ensures h
