@@ -15,6 +15,8 @@ mod ranges;
 mod reading;
 mod record;
 mod rule;
+#[cfg(test)]
+mod tests;
 mod text;
 mod views;
 mod whole;
