@@ -1,1 +1,3 @@
+pub mod Arrivals
 pub mod Distances
+pub mod Search
