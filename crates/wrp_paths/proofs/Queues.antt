@@ -1,5 +1,5 @@
 -- Laws of the queue of a search: which walk comes first, and what walks that go on along arcs add.
-use Rattle.std.proofs.Common.{◌≡◌, ℕ, ◌+◌, ◌*◌, ◌<◌, ◌≤◌, Bool, true, false, cond, ◌&&◌, ◌||◌, ◌==◌, leb, List, [], ◌∷◌, ◌++◌, length, map, get_or, All, refl, sym, ap, ◌∙◌, inl, inr, arith, eq-eqb, nat_cmp, Ordering}
+use Rattle.std.proofs.Common.{◌≡◌, ℕ, ◌+◌, ◌*◌, ◌≤◌, Bool, true, false, cond, ◌&&◌, ◌||◌, ◌==◌, leb, List, [], ◌∷◌, length, map, get_or, All, refl, ap, ◌∙◌, inl, inr, arith, eq-eqb, nat_cmp, Ordering}
 use Rattle.std.specs.List.{list_any, filter, range_with_len}
 use Rattle.std.specs.BinaryHeap.{IsUpperBound}
 use Rattle.std.specs.Ordering.{is_lt, ordering_then}

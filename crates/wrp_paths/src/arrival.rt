@@ -1,7 +1,7 @@
 //! Walks to a junction, of which each keeps its last arc alone.
 ghost use Rattle.std.specs.Prelude.{◌≡◌, ◌*◌, ◌^◌, ◌<◌, ◌≤◌, true};
 ghost use Rattle.wrp_town.specs.Arcs.{is_legal};
-ghost use Rattle.wrp_paths.specs.Arrivals.{start_at, along, step_along};
+ghost use Rattle.wrp_paths.specs.Arrivals.{start_at, along, step_along, entry_at};
 
 use wrp_town::{Step, Town};
 
@@ -55,5 +55,15 @@ impl Arrival {
             street: self.arc / 2,
             back: self.arc % 2 == 1,
         }
+    }
+}
+
+/// What a table of walks holds of a junction.
+pub fn entry(table: &[Option<Arrival>], j: u32) -> Option<Arrival>
+    ensures { result ≡ entry_at table.now j }
+{
+    match table.get(j as usize) {
+        Some(entry) => *entry,
+        None => None,
     }
 }

@@ -4,7 +4,7 @@ ghost use Rattle.std.specs.Option.{option_map};
 ghost use Rattle.wrp_paths.specs.Distances.{way_to};
 ghost use Rattle.wrp_paths.specs.Arrivals.{steps_to};
 
-use crate::arrival::Arrival;
+use crate::arrival::{Arrival, entry};
 use std::alloc::{AllocError, Global};
 use std::marker::Model;
 use wrp_town::{List, Step};
@@ -42,7 +42,7 @@ impl Paths {
         requires { j < length self.now }
         ensures { result ≡ option_map (λ way. way.0) (way_to self.now j) }
     {
-        self.table[j as usize].map(|walk| walk.cost)
+        entry(&self.table, j).map(|walk| walk.cost)
     }
 
     /// A shortest walk to a junction, and `None` where none leads there.
@@ -54,7 +54,7 @@ impl Paths {
         requires { j < length self.now }
         ensures { IfOk result (λ found. found ≡ option_map (λ way. way.1) (way_to self.now j)) }
     {
-        match self.table[j as usize] {
+        match entry(&self.table, j) {
             Some(walk) => Ok(Some(read_back(self.alloc, &self.table, j, walk.hops)?)),
             None => Ok(None),
         }
@@ -73,7 +73,7 @@ fn read_back(
     let mut steps = Vec::with_capacity(alloc, hops as usize)?;
     let mut at = j;
     for _ in 0..hops {
-        if let Some(Some(walk)) = table.get(at as usize) {
+        if let Some(walk) = entry(table, at) {
             steps.push(walk.step())?;
             at = walk.before;
         }

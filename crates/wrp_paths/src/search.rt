@@ -1,5 +1,5 @@
 //! The search for shortest walks: the junctions are settled in the order of their distances.
-ghost use Rattle.std.specs.Prelude.{◌≡◌, ℕ, ◌*◌, ◌<◌, ◌≤◌, true, None, [], ◌∷◌, ◌++◌, length, map, All, IfOk, OnOk};
+ghost use Rattle.std.specs.Prelude.{◌≡◌, ℕ, ◌*◌, ◌<◌, ◌≤◌, true, None, [], ◌∷◌, ◌++◌, length, map, replicate, All, IfOk, OnOk};
 ghost use Rattle.std.specs.List.Sorted.{IsPermutation};
 ghost use Rattle.std.specs.BinaryHeap.{IsHeap, KeepsHeap, heap_items};
 ghost use Rattle.wrp_town.specs.Arcs.{is_legal};
@@ -7,7 +7,7 @@ ghost use Rattle.wrp_paths.specs.Arrivals.{along, entry_at};
 ghost use Rattle.wrp_paths.specs.Distances.{AreShortest};
 ghost use Rattle.wrp_paths.specs.Search.{IsSearch, dearer_first, work_left};
 
-use crate::arrival::Arrival;
+use crate::arrival::{Arrival, entry};
 use crate::paths::Paths;
 use std::alloc::{AllocError, Global};
 use std::cmp::Reverse;
@@ -27,11 +27,18 @@ pub fn shortest(alloc: Global, graph: &Graph, from: u32) -> Result<Paths, AllocE
     requires { from < length graph.now.junctions }
     ensures { IfOk result (λ paths. AreShortest graph.now from paths) }
 {
-    let mut table = vec![in alloc; None; graph.town().junctions.len()]?;
+    let mut table = unsettled(alloc, graph.town().junctions.len())?;
     let mut queue = BinaryHeap::new(alloc);
     queue.push(Reverse(Arrival::start(from)))?;
     settle_all(graph, &mut table, &mut queue)?;
     Ok(Paths::from_table(alloc, table))
+}
+
+/// A table in which no junction is settled.
+fn unsettled(alloc: Global, count: usize) -> Result<Vec<Option<Arrival>>, AllocError>
+    ensures { IfOk result (λ table. table.items ≡ replicate count None) }
+{
+    vec![in alloc; None; count]
 }
 
 /// Settles every junction to which a walk leads.
@@ -46,7 +53,7 @@ fn settle_all(
     ensures { OnOk result (IsSearch graph.now from table.new []) }
 {
     while let Some(Reverse(walk)) = queue.pop() {
-        if table[walk.junction as usize].is_none() {
+        if entry(table, walk.junction).is_none() {
             settle(graph, table, queue, walk)?;
         }
     }
@@ -74,12 +81,7 @@ fn settle(
 }
 
 /// Puts the walks into the queue that go on from a walk along one of the arcs.
-fn go_on(
-    town: &Town,
-    walk: Arrival,
-    arcs: &[u32],
-    queue: &mut Queue,
-) -> Result<(), AllocError>
+fn go_on(town: &Town, walk: Arrival, arcs: &[u32], queue: &mut Queue) -> Result<(), AllocError>
     requires legal { All (λ arc. is_legal town.now arc ≡ true) arcs.now }
     requires few { walk.hops < 2000 }
     requires cheap { walk.cost ≤ 1000000000 * walk.hops }

@@ -1,7 +1,6 @@
 use Rattle.std.proofs.Common.{◌++◌, map, take}
 use Rattle.std.specs.List.Sorted.{IsPermutation}
 use Rattle.std.specs.BinaryHeap.{KeepsHeap, heap_items}
-use Rattle.std.specs.declared.cmp.Reverse.{Reverse}
 use Rattle.wrp_paths.specs.Arrivals.{along}
 use Rattle.wrp_paths.specs.Search.{dearer_first}
 use Rattle.wrp_paths.proofs.search.go_on.Given as goal
