@@ -1,0 +1,4 @@
+pub mod Tables
+pub mod Queues
+pub mod Searches
+pub mod Ends

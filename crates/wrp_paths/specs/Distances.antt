@@ -1,5 +1,5 @@
 -- Shortest walks over the legal arcs of a town.
-use Rattle.std.specs.Prelude.{◌≡◌, ℕ, ◌≤◌, true, List, Option, None, Some}
+use Rattle.std.specs.Prelude.{◌≡◌, ℕ, ◌<◌, ◌≤◌, true, List, length, slice_index_or, Option, None, Some}
 use Rattle.wrp_town.specs.declared.street.Step.{Step}
 use Rattle.wrp_town.specs.declared.town.Town.{Town}
 use Rattle.wrp_town.specs.Walks.{leads, walk_cost}
@@ -13,12 +13,16 @@ pub record IsShortest (town : Town) (from to : ℕ) (steps : List Step) : Type 0
 abbrev pub HasNoWalk : Town → ℕ → ℕ → Type 0
 HasNoWalk town from to = (steps : List Step) → leads town from steps to ≡ true → ⊥
 
--- the least cost of a walk from one junction to another, and none where no walk leads there
-abbrev pub IsDistance : Town → ℕ → ℕ → Option ℕ → Type 0
-IsDistance town from to (Some cost) = (steps : List Step) × IsShortest town from to steps × (walk_cost town steps ≡ cost)
+-- a cost with a shortest walk of this cost, and none where no walk leads there
+abbrev pub IsDistance : Town → ℕ → ℕ → Option (ℕ × List Step) → Type 0
+IsDistance town from to (Some way) = IsShortest town from to way.1 × (walk_cost town way.1 ≡ way.0)
 IsDistance town from to None = HasNoWalk town from to
 
--- a shortest walk from one junction to another, and none where no walk leads there
-abbrev pub IsPath : Town → ℕ → ℕ → Option (List Step) → Type 0
-IsPath town from to (Some steps) = IsShortest town from to steps
-IsPath town from to None = HasNoWalk town from to
+-- the cost and the walk to a junction
+abbrev pub way_to : List (Option (ℕ × List Step)) → ℕ → Option (ℕ × List Step)
+way_to ways j = slice_index_or ways j None
+
+-- for each junction the cost of a shortest walk that leads there, with such a walk
+pub record AreShortest (town : Town) (from : ℕ) (ways : List (Option (ℕ × List Step))) : Type 0 where
+  pub each : length ways ≡ length town.junctions
+  pub shortest : (j : ℕ) → j < length town.junctions → IsDistance town from j (way_to ways j)

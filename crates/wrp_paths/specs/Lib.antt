@@ -1,2 +1,3 @@
+pub mod Arrivals
 pub mod Distances
-pub mod Origins
+pub mod Search

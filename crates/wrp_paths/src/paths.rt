@@ -1,36 +1,83 @@
 //! Shortest walks from one junction to every other.
 ghost use Rattle.std.specs.Prelude.{◌≡◌, ◌<◌, length, IfOk};
-ghost use Rattle.wrp_paths.specs.Origins.{Origin};
-ghost use Rattle.wrp_paths.specs.Distances.{IsDistance};
+ghost use Rattle.std.specs.Option.{option_map};
+ghost use Rattle.wrp_paths.specs.Distances.{way_to};
+ghost use Rattle.wrp_paths.specs.Arrivals.{steps_to};
 
-use std::alloc::Global;
+use crate::arrival::{Arrival, entry};
+use std::alloc::{AllocError, Global};
 use std::marker::Model;
+use wrp_town::{List, Step};
 
-/// The shortest walks from one junction. Contracts see where they begin.
+/// Shortest walks from one junction. Contracts see, for each junction to which one leads, its cost and
+/// its steps.
 #[derive(Debug, Drop)]
 pub struct Paths {
     alloc: Global,
-    distances: Vec<Option<u64>>,
-    ghost origin: { Origin },
+    table: Vec<Option<Arrival>>,
 }
 
 impl Model for Paths {
-    ghost use Rattle.std.specs.Prelude.{◌≡◌, length};
-    ghost use Rattle.wrp_paths.specs.Origins.{Origin};
+    ghost use Rattle.std.specs.Prelude.{List, Option, ℕ};
+    ghost use Rattle.wrp_town.specs.declared.street.Step.{Step};
+    ghost use Rattle.wrp_paths.specs.Arrivals.{ways_of};
 
-    ghost Value = { Origin };
+    ghost Value = { List (Option (ℕ × List Step)) };
 
-    ghost view = { λ p. p.origin };
-
-    ghost invariant = { λ p. length p.distances.items ≡ length p.origin.town.junctions };
+    ghost view = { λ paths. ways_of paths.table.items };
 }
 
 impl Paths {
-    /// The least cost.
-    pub fn dist(&self, j: u32) -> Option<u64>
-        requires { j < length self.now.town.junctions }
-        ensures { IsDistance self.now.town self.now.junction j result }
+    ghost use Rattle.wrp_paths.specs.Arrivals.{ways_of};
+
+    /// The walks of a table.
+    pub(crate) fn from_table(alloc: Global, table: Vec<Option<Arrival>>) -> Paths
+        ensures { result ≡ ways_of table.items }
     {
-        self.distances[j as usize]
+        Paths { alloc, table }
     }
+
+    /// The cost of a shortest walk to a junction, and `None` where none leads there. It takes no memory.
+    pub fn dist(&self, j: u32) -> Option<u64>
+        requires { j < length self.now }
+        ensures { result ≡ option_map (λ way. way.0) (way_to self.now j) }
+    {
+        entry(&self.table, j).map(|walk| walk.cost)
+    }
+
+    /// A shortest walk to a junction, and `None` where none leads there.
+    ///
+    /// # Errors
+    ///
+    /// Want of memory alone.
+    pub fn path(&self, j: u32) -> Result<Option<List<Step>>, AllocError>
+        requires { j < length self.now }
+        ensures { IfOk result (λ found. found ≡ option_map (λ way. way.1) (way_to self.now j)) }
+    {
+        match entry(&self.table, j) {
+            Some(walk) => Ok(Some(read_back(self.alloc, &self.table, j, walk.hops)?)),
+            None => Ok(None),
+        }
+    }
+}
+
+/// The last steps of the walk to a junction.
+fn read_back(
+    alloc: Global,
+    table: &[Option<Arrival>],
+    j: u32,
+    hops: u32,
+) -> Result<List<Step>, AllocError>
+    ensures { IfOk result (λ steps. steps ≡ steps_to table.now hops j) }
+{
+    let mut steps = Vec::with_capacity(alloc, hops as usize)?;
+    let mut at = j;
+    for _ in 0..hops {
+        if let Some(walk) = entry(table, at) {
+            steps.push(walk.step())?;
+            at = walk.before;
+        }
+    }
+    steps.reverse();
+    Ok(List::from_vec(steps))
 }

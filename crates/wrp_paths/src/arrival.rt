@@ -1,0 +1,69 @@
+//! Walks to a junction, of which each keeps its last arc alone.
+ghost use Rattle.std.specs.Prelude.{◌≡◌, ◌*◌, ◌^◌, ◌<◌, ◌≤◌, true};
+ghost use Rattle.wrp_town.specs.Arcs.{is_legal};
+ghost use Rattle.wrp_paths.specs.Arrivals.{start_at, along, step_along, entry_at};
+
+use wrp_town::{Step, Town};
+
+/// A walk to a junction. Where it has a step, its last arc leads there from the junction before. Of two
+/// walks the one of less cost is the lesser.
+#[derive(Clone, Copy, Debug, PartialEq, Eq, PartialOrd, Ord)]
+pub struct Arrival {
+    pub cost: u64,
+    /// The number of steps.
+    pub hops: u32,
+    pub junction: u32,
+    pub before: u32,
+    pub arc: u32,
+}
+
+impl Arrival {
+    /// The walk of no steps at a junction.
+    pub fn start(junction: u32) -> Arrival
+        ensures { result ≡ start_at junction }
+    {
+        Arrival {
+            cost: 0,
+            hops: 0,
+            junction,
+            before: junction,
+            arc: 0,
+        }
+    }
+
+    /// The walk that goes on along a legal arc.
+    pub fn along(self, town: &Town, arc: u32) -> Arrival
+        requires legal { is_legal town.now arc ≡ true }
+        requires few { self.hops < 2000 }
+        requires cheap { self.cost ≤ 1000000000 * self.hops }
+        ensures { result ≡ along town.now self arc }
+    {
+        Arrival {
+            cost: self.cost + u64::from(town.cost(arc).unwrap_or(0)),
+            hops: self.hops + 1,
+            junction: town.head(arc),
+            before: self.junction,
+            arc,
+        }
+    }
+
+    /// The last step of a walk that has one.
+    pub fn step(self) -> Step
+        ensures { result ≡ step_along self.arc }
+    {
+        Step {
+            street: self.arc / 2,
+            back: self.arc % 2 == 1,
+        }
+    }
+}
+
+/// What a table of walks holds of a junction.
+pub fn entry(table: &[Option<Arrival>], j: u32) -> Option<Arrival>
+    ensures { result ≡ entry_at table.now j }
+{
+    match table.get(j as usize) {
+        Some(entry) => *entry,
+        None => None,
+    }
+}
