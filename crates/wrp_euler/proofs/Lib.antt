@@ -1,0 +1,2 @@
+mod StarSums
+mod WalkCounts
