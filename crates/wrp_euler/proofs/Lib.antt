@@ -1,2 +1,4 @@
 mod StarSums
 mod WalkCounts
+mod Places
+mod TrailLaws

@@ -2,5 +2,6 @@
 #![tactic(auto)]
 
 mod circuit;
+mod trail;
 
 pub use circuit::CircuitFault;
