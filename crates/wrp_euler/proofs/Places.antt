@@ -4,7 +4,6 @@ use Rattle.std.specs.Prelude.{slice_index}
 use Rattle.std.proofs.lemmas.Bool.{cases_lt, eqb-true}
 use Rattle.wrp_town.specs.declared.town.Town.{Town}
 use Rattle.wrp_town.specs.Arcs.{is_legal, tail_of}
-use Rattle.wrp_town.proofs.TownLaws.{legal_below}
 use Rattle.wrp_graph.specs.Stars.{out_of}
 use Rattle.wrp_euler.specs.Circuits.{leaving}
 use Rattle.wrp_euler.specs.Trails.{IsOpen, ArePlaces}
@@ -16,12 +15,6 @@ star_legal town j k below = star_first (is_legal town) (λ arc. tail_of town arc
 
 pub star_begins : (town : Town) (j k : ℕ) → k < length (out_of town j) → tail_of town (slice_index (out_of town j) k) ≡ j
 star_begins town j k below = eqb-true _ j (star_second (is_legal town) (λ arc. tail_of town arc == j) (2 * length town.streets) k below)
-
--- so it has a count
-pub star_inside : (town : Town) (j : ℕ) (arcs left : List ℕ) → arcs ≡ out_of town j → length left ≡ 2 * length town.streets
-    → (k : ℕ) → k < length arcs → slice_index arcs k < length left
-star_inside town j arcs left is sized k below =
-    omega (arith, ap (λ xs. slice_index xs k) is, legal_below town (slice_index (out_of town j) k) (star_legal town j k (omega (arith, ap length is))))
 
 pub open_at : (town : Town) (j : ℕ) (arcs left : List ℕ) → arcs ≡ out_of town j → (k : ℕ) → k < length arcs → 0 < slice_index left (slice_index arcs k) → IsOpen town left j (slice_index arcs k)
 open_at town j arcs left is k below more =
@@ -37,7 +30,7 @@ pub none_left : (town : Town) (left next : List ℕ) (j : ℕ) (arcs : List ℕ)
     → ((k : ℕ) → from ≤ k → k < place → slice_index left (slice_index arcs k) ≡ 0) → length arcs ≤ place → leaving town left j ≡ 0
 none_left town left next j arcs from place places is begins passed all =
     star_none (is_legal town) (λ arc. tail_of town arc == j) (2 * length town.streets) (slice_index left) (λ k below.
-      elim (cases_lt k from) [
-        inl before ↦ places.passed j k (omega arith)
+    elim (cases_lt k from) [
+      | inl before ↦ places.passed j k (omega arith)
       | inr after ↦ omega (arith, passed k after (omega (arith, ap length is)), ap (λ xs. slice_index left (slice_index xs k)) is)
-      ])
+    ])

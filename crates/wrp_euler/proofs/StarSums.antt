@@ -44,8 +44,8 @@ range_one : (f : ℕ → ℕ) (b i n : ℕ) → i ≤ b → b < i + n → ((x : 
 range_one f b i zero above below others = absurd (omega arith)
 range_one f b i (suc n) above below others =
     elim (eq-or-lt_of_le above) [
-      inl same ↦ omega (arith, sum_by-cons f i (range_with_len (i + 1) n), ap f same, range_none f (i + 1) n (λ x more. others x (λ is. omega arith)))
-    | inr less ↦ omega (arith, sum_by-cons f i (range_with_len (i + 1) n), others i (λ is. omega arith), range_one f b (i + 1) n (omega arith) (omega arith) others)
+      | inl same ↦ omega (arith, sum_by-cons f i (range_with_len (i + 1) n), ap f same, range_none f (i + 1) n (λ x more. others x (λ is. omega arith)))
+      | inr less ↦ omega (arith, sum_by-cons f i (range_with_len (i + 1) n), others i (λ is. omega arith), range_one f b (i + 1) n (omega arith) (omega arith) others)
     ]
 
 -- the items of a list, by their places
@@ -81,7 +81,7 @@ module _ (p q : ℕ → Bool) (m : ℕ) where
   star_one b below passes =
       star_sum (λ x. cond (b == x) 1 0)
       ∙ range_one (λ x. cond (p x) (cond (q x) (cond (b == x) 1 0) 0) 0) b 0 m (omega arith) (omega arith)
-          (λ x differs. cond_none (p x) _ (cond_none (q x) _ (ap (λ t. cond t 1 0) (ne_eqb b x (λ same. differs (sym same))))))
+      (λ x differs. cond_none (p x) _ (cond_none (q x) _ (ap (λ t. cond t 1 0) (ne_eqb b x (λ same. differs (sym same))))))
       ∙ ap (λ t. cond t (cond (q b) (cond (b == b) 1 0) 0) 0) passes
       ∙ ap (λ t. cond (q b) (cond t 1 0) 0) (eq-eqb b b refl)
 
@@ -89,8 +89,13 @@ module _ (p q : ℕ → Bool) (m : ℕ) where
   star_term f b below first second =
       let g : ℕ → ℕ = λ x. cond (p x) (cond (q x) (f x) 0) 0 in
       let here : g b ≡ f b = ap (λ t. cond t (cond (q b) (f b) 0) 0) first ∙ ap (λ t. cond t (f b) 0) second in
-      omega (arith, star_sum f, here, ap g (get_or-range_with_len 0 m b 0 below ∙ zero-add b),
-        get_or-le-sum_by g (range_with_len 0 m) b 0 (omega (arith, length-range_with_len 0 m)))
+      omega (
+        arith,
+        star_sum f,
+        here,
+        ap g (get_or-range_with_len 0 m b 0 below ∙ zero-add b),
+        get_or-le-sum_by g (range_with_len 0 m) b 0 (omega (arith, length-range_with_len 0 m)),
+      )
 
   pub star_first : (k : ℕ) → k < length star → p (get_or star k 0) ≡ true
   star_first k below = All-filter q (λ x. p x ≡ true) (filter p (range_with_len 0 m)) (filter_passes p (range_with_len 0 m)) k 0 below

@@ -48,13 +48,13 @@ pub record IsRun (town : Town) (counts : List ℕ) (base : ℕ) (trail : Trail) 
 pub run_begins : (town : Town) (counts : List ℕ) (base : ℕ) (trail : Trail) → IsTrail town trail → trail.base ≡ base
     → trail.left.items ≡ counts → trail.path.items ≡ [] → trail.done.items ≡ [] → IsRun town counts base trail
 run_begins town counts base trail is same left path done = record {
-    kept = is;
-    begins = same;
-    counted = λ arc. omega (arith, ap (λ xs. slice_index xs arc) left, ap (λ xs. count_of xs arc) path, ap (λ xs. count_of xs arc) done);
-    met = base;
-    returns = subst (λ xs. leads town base (reverse xs) base ≡ true) (sym done) (eq-eqb base base refl);
-    spent = λ arc more. absurd (omega (arith, ap (λ xs. count_of xs arc) done));
-  }
+  kept = is;
+  begins = same;
+  counted = λ arc. omega (arith, ap (λ xs. slice_index xs arc) left, ap (λ xs. count_of xs arc) path, ap (λ xs. count_of xs arc) done);
+  met = base;
+  returns = subst (λ xs. leads town base (reverse xs) base ≡ true) (sym done) (eq-eqb base base refl);
+  spent = λ arc more. absurd (omega (arith, ap (λ xs. count_of xs arc) done));
+}
 
 -- ---- a turn on
 
@@ -62,10 +62,18 @@ one_less : (left : List ℕ) (b arc : ℕ) → b < length left → 0 < slice_ind
     → slice_index (slice_set left b (slice_index left b - 1)) arc + cond (b == arc) 1 0 ≡ slice_index left arc
 one_less left b arc below more =
     elim (cases_eq b arc) [
-      inl same ↦ omega (arith, ap {B = ℕ} (λ t. cond t 1 0) (eq-eqb b arc same), ap (slice_index (slice_set left b (slice_index left b - 1))) same, ap (slice_index left) same,
-        get_or-set_same left b (slice_index left b - 1) 0 below)
-    | inr differs ↦ omega (arith, ap {B = ℕ} (λ t. cond t 1 0) (ne_eqb b arc differs),
-        get_or-set_other left b arc (slice_index left b - 1) 0 (λ same. differs (sym same)))
+      | inl same ↦ omega (
+        arith,
+        ap {B = ℕ} (λ t. cond t 1 0) (eq-eqb b arc same),
+        ap (slice_index (slice_set left b (slice_index left b - 1))) same,
+        ap (slice_index left) same,
+        get_or-set_same left b (slice_index left b - 1) 0 below,
+      )
+      | inr differs ↦ omega (
+        arith,
+        ap {B = ℕ} (λ t. cond t 1 0) (ne_eqb b arc differs),
+        get_or-set_other left b arc (slice_index left b - 1) 0 (λ same. differs (sym same)),
+      )
     ]
 
 pub run_on : (town : Town) (counts : List ℕ) (base : ℕ) (old new : Trail) → IsRun town counts base old → GoesOn town old new → IsRun town counts base new
@@ -73,7 +81,7 @@ run_on town counts base old new run on =
     let b = arc_of on.step in
     let below = legal_below town b on.open_arc.legal in
     let less : (arc : ℕ) → slice_index new.left.items arc + cond (b == arc) 1 0 ≡ slice_index old.left.items arc
-        = λ arc. ap (λ xs. slice_index xs arc + cond (b == arc) 1 0) on.left ∙ one_less old.left.items b arc (omega (arith, run.kept.sized)) on.open_arc.remains in
+    = λ arc. ap (λ xs. slice_index xs arc + cond (b == arc) 1 0) on.left ∙ one_less old.left.items b arc (omega (arith, run.kept.sized)) on.open_arc.remains in
     record {
       kept = record {
         there = omega (arith, on.at, head_of-below town b below);
@@ -85,8 +93,11 @@ run_on town counts base old new run on =
       counted = λ arc. omega (arith, run.counted arc, less arc, ap (λ xs. count_of xs arc) on.path, count_push old.path.items on.step arc, ap (λ xs. count_of xs arc) on.done);
       met = run.met;
       returns = subst (λ xs. leads town run.met (reverse xs) base ≡ true) (sym on.done) run.returns;
-      spent = λ arc more. omega (arith, run.spent arc (omega (arith, ap (λ xs. count_of xs arc) on.done)),
-        sum_by-le-sum_by (slice_index new.left.items) (slice_index old.left.items) (out_of town (head_of town arc)) (λ a. omega (arith, less a)));
+      spent = λ arc more. omega (
+        arith,
+        run.spent arc (omega (arith, ap (λ xs. count_of xs arc) on.done)),
+        sum_by-le-sum_by (slice_index new.left.items) (slice_index old.left.items) (out_of town (head_of town arc)) (λ a. omega (arith, less a)),
+      );
     }
   where
     go : {path path' : List Step} {at at' base base' : ℕ} → path' ≡ path → at' ≡ at → base' ≡ base → leads town base path at ≡ true → leads town base' path' at' ≡ true
@@ -98,30 +109,42 @@ sum_of_parts : (counts left : List ℕ) (path done : List Step) (arcs : List ℕ
     → ((arc : ℕ) → slice_index left arc + count_of path arc + count_of done arc ≡ slice_index counts arc)
     → sum_by (slice_index left) arcs + sum_by (count_of path) arcs + sum_by (count_of done) arcs ≡ sum_by (slice_index counts) arcs
 sum_of_parts counts left path done arcs counted =
-    omega (arith, sum_by_plus (slice_index left) (count_of path) arcs, sum_by_plus (λ arc. slice_index left arc + count_of path arc) (count_of done) arcs,
-      sum_by_same (λ arc. slice_index left arc + count_of path arc + count_of done arc) (slice_index counts) arcs counted)
+    omega (
+      arith,
+      sum_by_plus (slice_index left) (count_of path) arcs,
+      sum_by_plus (λ arc. slice_index left arc + count_of path arc) (count_of done) arcs,
+      sum_by_same (λ arc. slice_index left arc + count_of path arc + count_of done arc) (slice_index counts) arcs counted,
+    )
 
 -- what is left leaves each junction as often as it enters it, but for the current junction and the one where what is done begins
 pub left_balance : (town : Town) (counts : List ℕ) (base : ℕ) (trail : Trail) (run : IsRun town counts base trail) → AreBalanced town counts → (k : ℕ) → k < length town.junctions
     → leaving town trail.left.items k + cond (run.met == k) 1 0 ≡ entering town trail.left.items k + cond (trail.at == k) 1 0
 left_balance town counts base trail run balanced k below =
-    omega (arith, balanced k below,
+    omega (
+      arith,
+      balanced k below,
       sum_of_parts counts trail.left.items trail.path.items trail.done.items (out_of town k) run.counted,
       sum_of_parts counts trail.left.items trail.path.items trail.done.items (into town k) run.counted,
       walk_balance town trail.base trail.path.items trail.at k run.kept.goes,
       walk_balance town run.met (reverse trail.done.items) base k run.returns,
       ap {B = ℕ} (λ n. cond (n == k) 1 0) run.begins,
       sum_by_same (count_of (reverse trail.done.items)) (count_of trail.done.items) (out_of town k) (count_reverse trail.done.items),
-      sum_by_same (count_of (reverse trail.done.items)) (count_of trail.done.items) (into town k) (count_reverse trail.done.items))
+      sum_by_same (count_of (reverse trail.done.items)) (count_of trail.done.items) (into town k) (count_reverse trail.done.items),
+    )
 
 -- so where no arc is left at the current junction, what is done begins there
 pub met_here : (town : Town) (counts : List ℕ) (base : ℕ) (trail : Trail) (run : IsRun town counts base trail) → AreBalanced town counts
     → leaving town trail.left.items trail.at ≡ 0 → run.met ≡ trail.at
 met_here town counts base trail run balanced stuck =
     elim (cases_eq run.met trail.at) [
-      inl same ↦ same
-    | inr differs ↦ absurd (omega (arith, stuck, left_balance town counts base trail run balanced trail.at run.kept.there,
-        ap {B = ℕ} (λ t. cond t 1 0) (ne_eqb run.met trail.at differs), ap {B = ℕ} (λ t. cond t 1 0) (eq-eqb trail.at trail.at refl)))
+      | inl same ↦ same
+      | inr differs ↦ absurd (omega (
+        arith,
+        stuck,
+        left_balance town counts base trail run balanced trail.at run.kept.there,
+        ap {B = ℕ} (λ t. cond t 1 0) (ne_eqb run.met trail.at differs),
+        ap {B = ℕ} (λ t. cond t 1 0) (eq-eqb trail.at trail.at refl),
+      ))
     ]
 
 pub run_back : (town : Town) (counts : List ℕ) (base : ℕ) (old new : Trail) → IsRun town counts base old → AreBalanced town counts → GoesBack town old new → IsRun town counts base new
@@ -137,20 +160,27 @@ run_back town counts base old new run balanced back =
         goes = go new.path.items back.at back.base ends.before;
       };
       begins = back.base ∙ run.begins;
-      counted = λ arc. omega (arith, run.counted arc, ap (λ xs. slice_index xs arc) back.left,
-        ap (λ xs. count_of xs arc) back.path, count_push new.path.items back.step arc, ap (λ xs. count_of xs arc) back.done, count_push old.done.items back.step arc);
+      counted = λ arc. omega (
+        arith,
+        run.counted arc,
+        ap (λ xs. slice_index xs arc) back.left,
+        ap (λ xs. count_of xs arc) back.path,
+        count_push new.path.items back.step arc,
+        ap (λ xs. count_of xs arc) back.done,
+        count_push old.done.items back.step arc,
+      );
       met = tail_of town b;
       returns = subst (λ xs. leads town (tail_of town b) xs base ≡ true) (sym (ap reverse back.done ∙ reverse_push old.done.items back.step))
-        (leads-from_LeadsBy town (tail_of town b) back.step (reverse old.done.items) base (record {
-          legal = ends.legal;
-          begins = refl;
-          goes_on = subst (λ n. leads town n (reverse old.done.items) base ≡ true) (here ∙ sym ends.ends) run.returns;
-        }));
+          (leads-from_LeadsBy town (tail_of town b) back.step (reverse old.done.items) base (record {
+            legal = ends.legal;
+            begins = refl;
+            goes_on = subst (λ n. leads town n (reverse old.done.items) base ≡ true) (here ∙ sym ends.ends) run.returns;
+          }));
       spent = λ arc more. subst (λ xs. leaving town xs (head_of town arc) ≡ 0) (sym back.left)
-        (elim (cases_eq b arc) [
-          inl same ↦ subst (λ n. leaving town old.left.items n ≡ 0) (sym ends.ends ∙ ap (head_of town) same) back.stuck
-        | inr differs ↦ run.spent arc (omega (arith, ap (λ xs. count_of xs arc) back.done, count_push old.done.items back.step arc, ap {B = ℕ} (λ t. cond t 1 0) (ne_eqb b arc differs)))
-        ]);
+          (elim (cases_eq b arc) [
+            | inl same ↦ subst (λ n. leaving town old.left.items n ≡ 0) (sym ends.ends ∙ ap (head_of town) same) back.stuck
+            | inr differs ↦ run.spent arc (omega (arith, ap (λ xs. count_of xs arc) back.done, count_push old.done.items back.step arc, ap {B = ℕ} (λ t. cond t 1 0) (ne_eqb b arc differs)))
+          ]);
     }
   where
     go : (path : List Step) {at at' base base' : ℕ} → at' ≡ at → base' ≡ base → leads town base path at ≡ true → leads town base' path at' ≡ true
@@ -165,7 +195,7 @@ run_ends town counts base old new run balanced over =
     record {
       sized = ap length over.left ∙ run.kept.sized;
       closed = subst (λ xs. leads town base (reverse xs) base ≡ true) (sym over.done)
-        (subst (λ n. leads town n (reverse old.done.items) base ≡ true) (here ∙ sym at_base ∙ run.begins) run.returns);
+          (subst (λ n. leads town n (reverse old.done.items) base ≡ true) (here ∙ sym at_base ∙ run.begins) run.returns);
       counted = λ arc. omega (arith, run.counted arc, ap (λ xs. slice_index xs arc) over.left, ap (λ xs. count_of xs arc) over.path, ap (λ xs. count_of xs arc) over.done);
       base_spent = subst (λ xs. leaving town xs base ≡ 0) (sym over.left) (subst (λ n. leaving town old.left.items n ≡ 0) (sym at_base ∙ run.begins) over.stuck);
       heads_spent = λ arc more. subst (λ xs. leaving town xs (head_of town arc) ≡ 0) (sym over.left) (run.spent arc (omega (arith, ap (λ xs. count_of xs arc) over.done)));
@@ -176,8 +206,8 @@ run_ends town counts base old new run balanced over =
 pub run_goes : (town : Town) (counts : List ℕ) (base : ℕ) (old new : Trail) (went : Bool) → IsRun town counts base old → AreBalanced town counts → Turns town old new went → went ≡ true → IsRun town counts base new
 run_goes town counts base old new went run balanced turns is =
     elim (subst (Turns town old new) is turns) [
-      inl on ↦ run_on town counts base old new run on
-    | inr back ↦ run_back town counts base old new run balanced back
+      | inl on ↦ run_on town counts base old new run on
+      | inr back ↦ run_back town counts base old new run balanced back
     ]
 
 pub run_stops : (town : Town) (counts : List ℕ) (base : ℕ) (old new : Trail) (went : Bool) → IsRun town counts base old → AreBalanced town counts → Turns town old new went → went ≡ false → IsPiece town counts base new.left.items new.done.items
@@ -192,9 +222,16 @@ work trail = 2 * sum trail.left.items + length trail.path.items
 pub work_on : (town : Town) (old new : Trail) → IsTrail town old → GoesOn town old new → work new < work old
 work_on town old new is on =
     let b = arc_of on.step in
-    omega (arith, is.sized, legal_below town b on.open_arc.legal, on.open_arc.remains, ap sum on.left,
+    omega (
+      arith,
+      is.sized,
+      legal_below town b on.open_arc.legal,
+      on.open_arc.remains,
+      ap sum on.left,
       sum_by-set (λ x. x) old.left.items b (slice_index old.left.items b - 1) 0 (omega (arith, is.sized, legal_below town b on.open_arc.legal)),
-      ap length on.path, length-append old.path.items (on.step ∷ []))
+      ap length on.path,
+      length-append old.path.items (on.step ∷ []),
+    )
 
 pub work_back : (town : Town) (old new : Trail) → GoesBack town old new → work new < work old
 work_back town old new back = omega (arith, ap sum back.left, ap length back.path, length-append new.path.items (back.step ∷ []))

@@ -57,10 +57,15 @@ walk_balance town i [] j k lead =
     omega (arith, sum_by_none (count_of []) (out_of town k) (λ arc. refl), sum_by_none (count_of []) (into town k) (λ arc. refl), ap {B = ℕ} (λ n. cond (n == k) 1 0) (eqb-true i j lead))
 walk_balance town i (step ∷ steps) j k lead =
     let by = LeadsBy-from_leads town i step steps j lead in
-    omega (arith, walk_balance town (head_of town (arc_of step)) steps j k by.goes_on,
-      count_sum step steps (out_of town k), count_sum step steps (into town k),
-      out_one town (arc_of step) k by.legal, in_one town (arc_of step) k by.legal,
-      ap {B = ℕ} (λ n. cond (n == k) 1 0) by.begins)
+    omega (
+      arith,
+      walk_balance town (head_of town (arc_of step)) steps j k by.goes_on,
+      count_sum step steps (out_of town k),
+      count_sum step steps (into town k),
+      out_one town (arc_of step) k by.legal,
+      in_one town (arc_of step) k by.legal,
+      ap {B = ℕ} (λ n. cond (n == k) 1 0) by.begins,
+    )
 
 -- ---- the arcs of a walk
 
@@ -70,8 +75,8 @@ walk_legal town i [] j arc lead used = absurd (omega arith)
 walk_legal town i (step ∷ steps) j arc lead used =
     let by = LeadsBy-from_leads town i step steps j lead in
     elim (cases_eq (arc_of step) arc) [
-      inl same ↦ subst (λ a. is_legal town a ≡ true) same by.legal
-    | inr differs ↦ walk_legal town (head_of town (arc_of step)) steps j arc by.goes_on (omega (arith, count_other step steps arc differs))
+      | inl same ↦ subst (λ a. is_legal town a ≡ true) same by.legal
+      | inr differs ↦ walk_legal town (head_of town (arc_of step)) steps j arc by.goes_on (omega (arith, count_other step steps arc differs))
     ]
 
 -- what holds where a walk begins and where each of its arcs ends holds where each of them begins
@@ -81,10 +86,10 @@ walk_tails P town i [] j lead first heads arc used = absurd (omega arith)
 walk_tails P town i (step ∷ steps) j lead first heads arc used =
     let by = LeadsBy-from_leads town i step steps j lead in
     elim (cases_eq (arc_of step) arc) [
-      inl same ↦ subst (λ a. P (tail_of town a)) same (subst P (sym by.begins) first)
-    | inr differs ↦ walk_tails P town (head_of town (arc_of step)) steps j by.goes_on
-        (heads (arc_of step) (omega (arith, count_same step steps (arc_of step) refl)))
-        (λ a more. heads a (omega (arith, count_of-cons step steps a))) arc (omega (arith, count_other step steps arc differs))
+      | inl same ↦ subst (λ a. P (tail_of town a)) same (subst P (sym by.begins) first)
+      | inr differs ↦ walk_tails P town (head_of town (arc_of step)) steps j by.goes_on
+          (heads (arc_of step) (omega (arith, count_same step steps (arc_of step) refl)))
+          (λ a more. heads a (omega (arith, count_of-cons step steps a))) arc (omega (arith, count_other step steps arc differs))
     ]
 
 -- ---- joined junctions
@@ -117,9 +122,9 @@ walk_joins town taken i [] j lead all arc used = absurd (omega arith)
 walk_joins town taken i (step ∷ steps) j lead all arc used =
     let by = LeadsBy-from_leads town i step steps j lead in
     elim (cases_eq (arc_of step) arc) [
-      inl same ↦ subst (λ n. Joined town taken n (tail_of town arc)) (ap (tail_of town) (sym same) ∙ by.begins) (here (tail_of town arc))
-    | inr differs ↦ subst (λ n. Joined town taken n (tail_of town arc)) by.begins
-        (along (arc_of step) (tail_of town arc) (legal_below town (arc_of step) by.legal) (all (arc_of step) (omega (arith, count_same step steps (arc_of step) refl)))
+      | inl same ↦ subst (λ n. Joined town taken n (tail_of town arc)) (ap (tail_of town) (sym same) ∙ by.begins) (here (tail_of town arc))
+      | inr differs ↦ subst (λ n. Joined town taken n (tail_of town arc)) by.begins
+          (along (arc_of step) (tail_of town arc) (legal_below town (arc_of step) by.legal) (all (arc_of step) (omega (arith, count_same step steps (arc_of step) refl)))
           (walk_joins town taken (head_of town (arc_of step)) steps j by.goes_on (λ a more. all a (omega (arith, count_of-cons step steps a))) arc
-            (omega (arith, count_other step steps arc differs))))
+          (omega (arith, count_other step steps arc differs))))
     ]

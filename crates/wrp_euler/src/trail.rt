@@ -36,10 +36,8 @@ impl Trail {
         ensures base { IfOk result (λ trail. trail.base ≡ base) }
         ensures at { IfOk result (λ trail. trail.at ≡ base) }
     {
-        let mut left = Vec::with_capacity(alloc, counts.len())?;
-        left.extend_from_slice(counts)?;
         Ok(Trail {
-            left,
+            left: counts.to_vec(alloc)?,
             next: vec![in alloc; 0usize; graph.town().junctions.len()]?,
             base,
             path: Vec::new(alloc),
@@ -109,7 +107,12 @@ impl Trail {
     }
 
     /// The trail that traverses all that can be traversed from a junction, at its end.
-    pub(crate) fn run(alloc: Global, graph: &Graph, counts: &[u32], base: u32) -> Result<Trail, AllocError>
+    pub(crate) fn run(
+        alloc: Global,
+        graph: &Graph,
+        counts: &[u32],
+        base: u32,
+    ) -> Result<Trail, AllocError>
         requires there { base < length graph.now.junctions }
         requires counts { AreCounts graph.now counts.now }
         requires balanced { AreBalanced graph.now counts.now }

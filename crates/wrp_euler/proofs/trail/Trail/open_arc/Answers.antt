@@ -1,12 +1,14 @@
-use Rattle.std.proofs.Common.{◌≡◌, ◌<◌, length, slice_index, arith}
+use Rattle.std.proofs.Common.{◌≡◌, ◌<◌, ◌==◌, length, slice_index, arith}
 use Rattle.std.proofs.lemmas.List.{get_or_read}
-use Rattle.wrp_euler.proofs.Places.{star_inside, open_at, none_left}
+use Rattle.wrp_town.specs.Arcs.{tail_of}
+use Rattle.wrp_euler.proofs.StarCounts.{star_inside}
+use Rattle.wrp_euler.proofs.Places.{open_at, none_left}
 use Rattle.wrp_euler.proofs.trail.Trail.open_arc.Goals as goal
 
 pub first_left-place-requires-clause-inside : goal.first_left-place-requires-clause-inside
 first_left-place-requires-clause-inside c =
     rw c.as_slice.ensures.value
-    (star_inside c.args.graph.now c.args.self.now.at c.out_of-arcs.result.now c.args.self.now.left.items c.out_of-arcs.ensures c.requires.sized)
+    (star_inside c.args.graph.now (λ arc. tail_of c.args.graph.now arc == c.args.self.now.at) c.out_of-arcs.result.now c.args.self.now.left.items c.out_of-arcs.ensures c.requires.sized)
 
 pub returns-then-place-arcs-clause-arc : goal.returns-then-place-arcs-clause-arc
 returns-then-place-arcs-clause-arc c =
