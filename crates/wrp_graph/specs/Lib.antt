@@ -1,2 +1,3 @@
 pub mod Stars
 pub mod Pieces
+pub mod Sorted

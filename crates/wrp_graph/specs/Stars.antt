@@ -1,5 +1,5 @@
 -- The star of a junction: the legal arcs that leave it, and those that enter it.
-use Rattle.std.specs.Prelude.{ℕ, ◌==◌, List}
+use Rattle.std.specs.Prelude.{ℕ, ◌==◌, List, map}
 use Rattle.std.specs.List.{filter}
 use Rattle.wrp_town.specs.declared.town.Town.{Town}
 use Rattle.wrp_town.specs.Arcs.{tail_of, head_of, legal_arcs}
@@ -11,3 +11,7 @@ out_of town j = filter (λ arc. tail_of town arc == j) (legal_arcs town)
 -- the legal arcs that enter a junction, ascending
 abbrev pub into : Town → ℕ → List ℕ
 into town j = filter (λ arc. head_of town arc == j) (legal_arcs town)
+
+-- arcs, each behind a number that it has
+abbrev pub keyed_by : (ℕ → ℕ) → List ℕ → List (ℕ × ℕ)
+keyed_by key arcs = map (λ arc. (key arc, arc)) arcs

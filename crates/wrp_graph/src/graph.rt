@@ -3,6 +3,8 @@ ghost use Rattle.std.specs.Prelude.{◌≡◌, ◌<◌, length, IfOk};
 ghost use Rattle.wrp_graph.specs.Stars.{out_of, into};
 
 use crate::buckets::Buckets;
+use crate::ends::Ends;
+use std::alloc::{AllocError, Global};
 use std::marker::Model;
 use wrp_town::Town;
 
@@ -29,6 +31,25 @@ impl<'a> Model for Graph<'a> {
 }
 
 impl<'a> Graph<'a> {
+    /// Sorts the legal arcs of a town by tail and by head.
+    ///
+    /// # Errors
+    ///
+    /// Want of memory alone.
+    pub fn new(alloc: Global, town: &'a Town) -> Result<Graph<'a>, AllocError>
+        ensures { IfOk result (λ g. g ≡ town.now) }
+    {
+        let ends = Ends::of_town(alloc, town)?;
+        let count = town.junctions.len();
+        let leaving = Buckets::new(alloc, count, ends.tails.as_slice())?;
+        let entering = Buckets::new(alloc, count, ends.heads.as_slice())?;
+        Ok(Graph {
+            town,
+            leaving,
+            entering,
+        })
+    }
+
     /// The town of which the graph was made. It takes no memory.
     pub fn town(&self) -> &Town
         ensures { result.now ≡ self.now }

@@ -2,6 +2,7 @@
 #![tactic(auto)]
 
 mod buckets;
+mod ends;
 mod graph;
 
 pub use buckets::Buckets;
