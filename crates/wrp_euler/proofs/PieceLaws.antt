@@ -1,13 +1,13 @@
 -- What the trail of a whole piece proves: the circuit, or that another piece is there; and what every circuit proves.
-use Rattle.std.proofs.Common.{◌≡◌, ℕ, ◌+◌, ◌*◌, ◌<◌, Bool, true, false, cond, ◌==◌, List, reverse, length, ap, refl, sym, ◌∙◌, subst, inl, inr, arith, eq-eqb}
+use Rattle.std.proofs.Common.{◌≡◌, ℕ, ◌+◌, ◌*◌, ◌<◌, true, ◌==◌, List, reverse, length, refl, sym, ◌∙◌, subst, arith, eq-eqb}
 use Rattle.std.specs.Prelude.{slice_index}
 use Rattle.std.specs.List.{sum_by}
 use Rattle.std.proofs.lemmas.Bool.{ltb-true, ltb-false, lt-ltb, true_from_ne_false}
 use Rattle.wrp_town.specs.declared.street.Step.{Step}
 use Rattle.wrp_town.specs.declared.town.Town.{Town}
 use Rattle.wrp_town.specs.Arcs.{is_legal, tail_of, head_of}
-use Rattle.wrp_town.specs.Walks.{leads, is_closed_walk, count_of}
-use Rattle.wrp_town.proofs.TownLaws.{legal_below, tail_of-below, head_of-below}
+use Rattle.wrp_town.specs.Walks.{count_of}
+use Rattle.wrp_town.proofs.TownLaws.{legal_below, head_of-below}
 use Rattle.wrp_town.proofs.WalkLaws.{closed-from_leads, leads-from_closed}
 use Rattle.wrp_graph.specs.Stars.{out_of, into}
 use Rattle.wrp_graph.specs.Pieces.{Joined}

@@ -1,5 +1,5 @@
 -- The counts of the arcs of a star: of all the legal arcs that pass a test.
-use Rattle.std.proofs.Common.{◌≡◌, ℕ, ◌*◌, ◌<◌, ◌≤◌, Bool, true, List, length, sum, ap, arith}
+use Rattle.std.proofs.Common.{◌≡◌, ℕ, ◌*◌, ◌<◌, ◌≤◌, Bool, List, length, sum, ap, arith}
 use Rattle.std.specs.Prelude.{slice_index}
 use Rattle.std.specs.List.{sum_by, range_with_len}
 use Rattle.wrp_town.specs.declared.town.Town.{Town}

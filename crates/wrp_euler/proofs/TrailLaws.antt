@@ -1,5 +1,5 @@
 -- What a trail keeps at each turn, and what it has when it ends.
-use Rattle.std.proofs.Common.{◌≡◌, ℕ, suc, ◌+◌, ◌-◌, ◌*◌, ◌<◌, ◌≤◌, Bool, true, false, cond, ◌==◌, List, [], ◌∷◌, ◌++◌, reverse, length, get_or, set, sum, ap, refl, sym, ◌∙◌, subst, inl, inr, arith, eq-eqb, length-set, length-append, get_or-set_same, get_or-set_other}
+use Rattle.std.proofs.Common.{◌≡◌, ℕ, ◌+◌, ◌-◌, ◌*◌, ◌<◌, Bool, true, false, cond, ◌==◌, List, [], ◌∷◌, ◌++◌, reverse, length, sum, ap, refl, sym, ◌∙◌, subst, inl, inr, arith, eq-eqb, length-set, length-append, get_or-set_same, get_or-set_other}
 use Rattle.std.specs.Prelude.{slice_index, slice_set}
 use Rattle.std.specs.List.{sum_by}
 use Rattle.std.proofs.lemmas.Bool.{and_parts, eqb-true, cases_eq, ne_eqb}
@@ -13,7 +13,7 @@ use Rattle.wrp_town.proofs.WalkLaws.{leads-push, leads-push_is, leads-from_Leads
 use Rattle.wrp_graph.specs.Stars.{out_of, into}
 use Rattle.wrp_euler.specs.declared.trail.Trail.{Trail}
 use Rattle.wrp_euler.specs.Circuits.{AreBalanced, leaving, entering}
-use Rattle.wrp_euler.specs.Trails.{IsOpen, ArePlaces, IsTrail, GoesOn, GoesBack, IsOver, Turns, IsPiece}
+use Rattle.wrp_euler.specs.Trails.{IsTrail, GoesOn, GoesBack, IsOver, Turns, IsPiece}
 use Rattle.wrp_euler.proofs.StarSums.{sum_by_plus, sum_by_same}
 use Rattle.wrp_euler.proofs.WalkCounts.{count_push, count_reverse, reverse_push, walk_balance}
 

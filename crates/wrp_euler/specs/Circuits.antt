@@ -3,7 +3,7 @@ use Rattle.std.specs.Prelude.{◌≡◌, ℕ, ◌*◌, ◌<◌, Bool, true, fals
 use Rattle.std.specs.List.{sum_by}
 use Rattle.wrp_town.specs.declared.street.Step.{Step}
 use Rattle.wrp_town.specs.declared.town.Town.{Town}
-use Rattle.wrp_town.specs.Arcs.{tail_of, head_of, is_legal}
+use Rattle.wrp_town.specs.Arcs.{tail_of, is_legal}
 use Rattle.wrp_town.specs.Walks.{is_closed_walk, count_of}
 use Rattle.wrp_graph.specs.Stars.{out_of, into}
 use Rattle.wrp_graph.specs.Pieces.{Joined}

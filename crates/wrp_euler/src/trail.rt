@@ -9,8 +9,8 @@ use std::alloc::{AllocError, Global};
 use wrp_graph::Graph;
 use wrp_town::Step;
 
-/// A trail that began at a junction.
-#[derive(Debug, Drop)]
+/// A trail that began at a junction, the base.
+#[derive(Drop)]
 pub(crate) struct Trail {
     /// How many traversals of each arc are left.
     pub(crate) left: Vec<u32>,

@@ -1,6 +1,6 @@
 use Rattle.std.proofs.Common.{◌≡◌, reverse}
 use Rattle.wrp_town.specs.Arcs.{tail_of}
-use Rattle.wrp_euler.specs.Circuits.{AreNone, IsLeastUsed, IsCircuit}
+use Rattle.wrp_euler.specs.Circuits.{AreNone, IsLeastUsed}
 use Rattle.wrp_euler.proofs.PieceLaws.{piece_circuit, piece_apart, circuit_one_piece}
 use Rattle.wrp_euler.proofs.circuits.circuit_from.Goals as goal
 
