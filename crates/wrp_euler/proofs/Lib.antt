@@ -1,0 +1,6 @@
+mod StarSums
+mod StarCounts
+mod WalkCounts
+mod Places
+mod TrailLaws
+mod PieceLaws

@@ -3,7 +3,7 @@ use Rattle.std.specs.Prelude.{◌≡◌, ℕ, ◌*◌, ◌<◌, Bool, true, fals
 use Rattle.std.specs.List.{sum_by}
 use Rattle.wrp_town.specs.declared.street.Step.{Step}
 use Rattle.wrp_town.specs.declared.town.Town.{Town}
-use Rattle.wrp_town.specs.Arcs.{tail_of, head_of, is_legal}
+use Rattle.wrp_town.specs.Arcs.{tail_of, is_legal}
 use Rattle.wrp_town.specs.Walks.{is_closed_walk, count_of}
 use Rattle.wrp_graph.specs.Stars.{out_of, into}
 use Rattle.wrp_graph.specs.Pieces.{Joined}
@@ -32,6 +32,24 @@ AreInOnePiece town counts first second = Joined town (is_used counts) (tail_of t
 pub record IsCircuit (town : Town) (counts : List ℕ) (steps : List Step) : Type 0 where
   pub closed : is_closed_walk town steps ≡ true
   pub counted : (arc : ℕ) → count_of steps arc ≡ slice_index counts arc
+
+-- every junction is left as often as it is entered
+abbrev pub AreBalanced : Town → List ℕ → Type 0
+AreBalanced town counts = (j : ℕ) → j < length town.junctions → leaving town counts j ≡ entering town counts j
+
+-- the arcs that are traversed are one piece
+abbrev pub AreOnePiece : Town → List ℕ → Type 0
+AreOnePiece town counts = (first second : ℕ) → is_used counts first ≡ true → is_used counts second ≡ true → AreInOnePiece town counts first second
+
+-- the least arc that is traversed
+pub record IsLeastUsed (counts : List ℕ) (arc : ℕ) : Type 0 where
+  pub there : arc < length counts
+  pub used : is_used counts arc ≡ true
+  pub least : (k : ℕ) → k < arc → is_used counts k ≡ false
+
+-- no arc is traversed
+abbrev pub AreNone : List ℕ → Type 0
+AreNone counts = (arc : ℕ) → slice_index counts arc ≡ 0
 
 -- the least junction that as many traversals do not leave as enter
 pub record IsUnbalanced (town : Town) (counts : List ℕ) (junction : ℕ) : Type 0 where

@@ -1,8 +1,8 @@
 -- Why counts have no circuit.
 use Rattle.std.specs.Prelude.{ℕ, List}
 use Rattle.wrp_town.specs.declared.town.Town.{Town}
-use Rattle.wrp_euler.specs.declared.circuit.CircuitFault.{CircuitFault}
-use Rattle.wrp_euler.specs.declared.circuit.CircuitFault.TheVariants.{Unbalanced, Apart, Memory}
+use Rattle.wrp_euler.specs.declared.circuits.CircuitFault.{CircuitFault}
+use Rattle.wrp_euler.specs.declared.circuits.CircuitFault.TheVariants.{Unbalanced, Apart, Memory}
 use Rattle.wrp_euler.specs.Circuits.{IsUnbalanced, AreApart}
 
 -- what a fault says of the counts; want of memory says nothing

@@ -1,6 +1,7 @@
 //! Closed walks with given counts of traversals.
 #![tactic(auto)]
 
-mod circuit;
+mod circuits;
+mod trail;
 
-pub use circuit::CircuitFault;
+pub use circuits::{CircuitFault, circuit};
