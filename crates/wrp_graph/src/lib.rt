@@ -7,3 +7,6 @@ mod graph;
 
 pub use buckets::Buckets;
 pub use graph::Graph;
+
+#[cfg(test)]
+mod tests;
