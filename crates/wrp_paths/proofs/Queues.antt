@@ -1,5 +1,5 @@
 -- Laws of the queue of a search: which walk comes first, and what walks that go on along arcs add.
-use Rattle.std.proofs.Common.{◌≡◌, ℕ, ◌+◌, ◌*◌, ◌≤◌, Bool, true, false, cond, ◌&&◌, ◌||◌, ◌==◌, leb, List, [], ◌∷◌, length, map, get_or, All, refl, ap, ◌∙◌, inl, inr, arith, eq-eqb, nat_cmp, Ordering}
+use Rattle.std.proofs.Common.{◌≡◌, ℕ, ◌+◌, ◌*◌, ◌<◌, ◌≤◌, Bool, true, false, not, cond, ◌&&◌, ◌||◌, ◌==◌, leb, List, [], ◌∷◌, ◌++◌, length, map, take, get_or, Option, is_some, All, refl, sym, ap, ◌∙◌, inl, inr, arith, eq-eqb, nat_cmp, Ordering}
 use Rattle.std.specs.List.{list_any, filter, range_with_len}
 use Rattle.std.specs.BinaryHeap.{IsUpperBound}
 use Rattle.std.specs.Ordering.{is_lt, ordering_then}
@@ -7,7 +7,8 @@ use Rattle.std.specs.declared.cmp.Ordering.TheVariants.{Less, Equal, Greater}
 use Rattle.std.specs.declared.cmp.Reverse.{Reverse}
 use Rattle.std.proofs.lemmas.Bool.{and_from, eqb-true, or_cases, or_left, or_right, le-leb}
 use Rattle.std.proofs.lemmas.Bool.Decides.{nat_tests}
-use Rattle.std.proofs.lemmas.List.Elements.{All-nil, All-cons, All-weaker, All-filter, filter_passes}
+use Rattle.std.proofs.lemmas.List.{length-map, map-append}
+use Rattle.std.proofs.lemmas.List.Elements.{All-nil, All-cons, All-append, All-map, All-weaker, All-filter, filter_passes, filter_more}
 use Rattle.std.proofs.lemmas.List.Folds.{list_any_at}
 use Rattle.std.proofs.lemmas.List.FromFn.{get_or-range_with_len, length-range_with_len}
 use Rattle.std.proofs.lemmas.List.Sums.{length-filter, count_by-le-length}
@@ -16,8 +17,8 @@ use Rattle.wrp_town.specs.Arcs.{tail_of, head_of, is_legal, cost_or_zero, arcs, 
 use Rattle.wrp_town.proofs.TownLaws.{legal_below}
 use Rattle.wrp_graph.specs.Stars.{out_of}
 use Rattle.wrp_paths.specs.declared.arrival.Arrival.{Arrival}
-use Rattle.wrp_paths.specs.Arrivals.{along}
-use Rattle.wrp_paths.specs.Search.{dearer_first, is_queued}
+use Rattle.wrp_paths.specs.Arrivals.{along, entry_at}
+use Rattle.wrp_paths.specs.Search.{dearer_first, is_queued, leads_on, onward}
 
 -- what comes first decides unless it ties
 first_decides : (a b : Ordering) → is_lt (ordering_then a b) ≡ false → is_lt a ≡ false
@@ -83,14 +84,52 @@ length-out_of town j =
 -- ---- walks that go on
 
 -- a walk that goes on along an arc
-abbrev pub onward : Town → Arrival → ℕ → Reverse Arrival
-onward town walk arc = record { 0 = along town walk arc }
+abbrev pub one_on : Town → Arrival → ℕ → Reverse Arrival
+one_on town walk arc = record { 0 = along town walk arc }
 
--- along a legal arc one of the walks that go on leads to its head
-pub is_queued-onward : (town : Town) (walk : Arrival) (arc : ℕ) → is_legal town arc ≡ true → tail_of town arc ≡ walk.junction → is_queued (map (onward town walk) (out_of town walk.junction)) (head_of town arc) (walk.cost + cost_or_zero town arc) ≡ true
-is_queued-onward town walk arc legal leaves =
+-- along a legal arc one of the walks that go on leads to its head, where that isn't settled
+pub is_queued-onward : (town : Town) (table : List (Option Arrival)) (walk : Arrival) (arc : ℕ) → is_legal town arc ≡ true → tail_of town arc ≡ walk.junction → leads_on town table arc ≡ true → is_queued (onward town table walk (out_of town walk.junction)) (head_of town arc) (walk.cost + cost_or_zero town arc) ≡ true
+is_queued-onward town table walk arc legal leaves ahead =
     let j = head_of town arc in
     let cost = walk.cost + cost_or_zero town arc in
     let test : Reverse Arrival → Bool = λ q. q.0.junction == j && leb q.0.cost cost in
-    list_any-map (onward town walk) test (out_of town walk.junction)
-    ∙ list_any-out_of town arc walk.junction (λ a. test (onward town walk a)) legal leaves (and_from _ _ (eq-eqb j j refl) (le-leb cost cost (omega arith)))
+    let arcs = out_of town walk.junction in
+    list_any-map (one_on town walk) test (filter (leads_on town table) arcs)
+    ∙ list_any-filter (leads_on town table) (λ a. test (one_on town walk a)) arcs
+    (list_any-out_of town arc walk.junction (λ a. leads_on town table a && test (one_on town walk a)) legal leaves
+    (and_from _ _ ahead (and_from _ _ (eq-eqb j j refl) (le-leb cost cost (omega arith)))))
+
+-- there are no more of them than arcs
+pub length-onward : (town : Town) (table : List (Option Arrival)) (walk : Arrival) → length (onward town table walk (out_of town walk.junction)) ≤ 2 * length town.streets
+length-onward town table walk =
+    let arcs = out_of town walk.junction in
+    omega (
+      arith,
+      length-map (filter (leads_on town table) arcs) (one_on town walk),
+      length-filter (leads_on town table) arcs,
+      count_by-le-length (leads_on town table) arcs,
+      length-out_of town walk.junction,
+    )
+
+-- what all walks of a queue keep, and those that go on from one along legal arcs
+pub All-onward : (town : Town) (table : List (Option Arrival)) (walk : Arrival) (P : Reverse Arrival → Type 0) (queue : List (Reverse Arrival)) → All P queue → ((arc : ℕ) → is_legal town arc ≡ true → tail_of town arc ≡ walk.junction → P (one_on town walk arc)) → All P (queue ++ onward town table walk (out_of town walk.junction))
+All-onward town table walk P queue old new =
+    let arcs = out_of town walk.junction in
+    All-append P queue (onward town table walk arcs) old
+    (All-map P (one_on town walk) (filter (leads_on town table) arcs)
+    (All-filter (leads_on town table) (λ arc. P (one_on town walk arc)) arcs
+    (λ k d below. new _ (out_of-legal town walk.junction k d below) (out_of-tail town walk.junction k d below))))
+
+chosen : (town : Town) (walk : Arrival) (arc : ℕ) (settled : Bool) → map (one_on town walk) (cond (not settled) (arc ∷ []) []) ≡ cond settled [] (one_on town walk arc ∷ [])
+chosen town walk arc true = refl
+chosen town walk arc false = refl
+
+-- one arc more: its walk is added, unless its head is settled
+pub onward_more : (town : Town) (table : List (Option Arrival)) (walk next : Arrival) (arcs : List ℕ) (i : ℕ) (settled : Bool) → i < length arcs → next ≡ along town walk (get_or arcs i 0) → is_some (entry_at table next.junction) ≡ settled → onward town table walk (take (i + 1) arcs) ≡ onward town table walk (take i arcs) ++ cond settled [] (record { 0 = next } ∷ [])
+onward_more town table walk next arcs i settled below is there =
+    let arc = get_or arcs i 0 in
+    let before = filter (leads_on town table) (take i arcs) in
+    let same : is_some (entry_at table (head_of town arc)) ≡ settled = ap (λ w. is_some (entry_at table w.junction)) (sym is) ∙ there in
+    ap (map (one_on town walk)) (filter_more (leads_on town table) arcs i 0 below ∙ ap (λ b. before ++ cond (not b) (arc ∷ []) []) same)
+    ∙ map-append (one_on town walk) before (cond (not settled) (arc ∷ []) [])
+    ∙ ap (λ l. map (one_on town walk) before ++ l) (chosen town walk arc settled ∙ ap (λ w. cond settled [] (record { 0 = w } ∷ [])) (sym is))

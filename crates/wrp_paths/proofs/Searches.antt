@@ -1,23 +1,23 @@
 -- The steps of a search keep what it keeps: a walk is passed over, or settles its junction.
-use Rattle.std.proofs.Common.{◌≡◌, ℕ, ◌+◌, ◌*◌, ◌<◌, ◌≤◌, true, not, ◌&&◌, ◌||◌, ◌==◌, leb, List, [], ◌∷◌, ◌++◌, length, set, map, replicate, get_or, All, Option, Some, None, is_some, refl, sym, ap, ◌∙◌, subst, inl, inr, arith, length-set, length-append}
-use Rattle.std.proofs.lemmas.List.{length-map, length-replicate, get_or_past, get_or-replicate}
+use Rattle.std.proofs.Common.{◌≡◌, ℕ, ◌+◌, ◌*◌, ◌<◌, ◌≤◌, true, not, ◌&&◌, ◌||◌, ◌==◌, leb, List, [], ◌∷◌, ◌++◌, length, set, replicate, get_or, All, Option, Some, None, is_some, refl, sym, ap, ◌∙◌, subst, inl, inr, arith, length-set, length-append}
+use Rattle.std.proofs.lemmas.List.{length-replicate, get_or_past, get_or-replicate}
 use Rattle.std.proofs.lemmas.List.Sums.{count_by-le-length}
 use Rattle.std.proofs.lemmas.Option.{none-some}
 use Rattle.std.specs.List.Sorted.{IsPermutation}
 use Rattle.std.specs.declared.cmp.Reverse.{Reverse}
-use Rattle.std.proofs.lemmas.Bool.{and_parts, and_from, or_cases, or_left, or_right, leb-true, eqb-true, eq-eqb, cases_lt}
-use Rattle.std.proofs.lemmas.List.Elements.{All-nil, All-cons, All-head, All-tail, All-append, All-map, All-weaker}
+use Rattle.std.proofs.lemmas.Bool.{and_parts, and_from, or_cases, or_left, or_right, leb-true, eqb-true, eq-eqb, cases_Bool, cases_lt}
+use Rattle.std.proofs.lemmas.List.Elements.{All-nil, All-cons, All-head, All-tail, All-weaker}
 use Rattle.std.proofs.lemmas.List.Folds.{list_any-append}
 use Rattle.std.proofs.lemmas.List.Sorted.{All-permutation, list_any-IsPermutation, length_permutation}
 use Rattle.wrp_town.specs.declared.town.Town.{Town}
 use Rattle.wrp_town.specs.Arcs.{tail_of, head_of, is_legal, cost_or_zero}
-use Rattle.wrp_town.proofs.TownLaws.{cost_or_zero-at_most, legal_below, head_of-below}
+use Rattle.wrp_town.proofs.TownLaws.{some_value, cost_or_zero-at_most, legal_below, head_of-below}
 use Rattle.wrp_graph.specs.Stars.{out_of}
 use Rattle.wrp_paths.specs.declared.arrival.Arrival.{Arrival}
 use Rattle.wrp_paths.specs.Arrivals.{start_at, entry_at}
-use Rattle.wrp_paths.specs.Search.{IsWalk, begins, goes_on, IsSearch, is_settled, is_queued, is_known, unsettled, work_left}
+use Rattle.wrp_paths.specs.Search.{IsWalk, begins, goes_on, IsSearch, is_settled, is_queued, is_known, unsettled, onward, work_left}
 use Rattle.wrp_paths.proofs.Tables.{entry_at-added, entry_at-cases, unsettled-added, IsWalk-kept, is_settled-from, is_settled-kept}
-use Rattle.wrp_paths.proofs.Queues.{out_of-legal, out_of-tail, length-out_of, onward, is_queued-onward}
+use Rattle.wrp_paths.proofs.Queues.{is_queued-onward, length-onward, All-onward}
 
 -- the order of the queue doesn't matter
 is_known-permutation : (table : List (Option Arrival)) (xs ys : List (Reverse Arrival)) (j cost : ℕ) → IsPermutation xs ys → is_known table xs j cost ≡ true → is_known table ys j cost ≡ true
@@ -71,13 +71,6 @@ IsSearch-passed town from table q queue walk is search =
 
 -- ---- a walk settles its junction
 
--- what all walks of a queue keep, and those that go on from one along legal arcs
-All-onward : (town : Town) (walk : Arrival) (P : Reverse Arrival → Type 0) (queue : List (Reverse Arrival)) → All P queue → ((arc : ℕ) → is_legal town arc ≡ true → tail_of town arc ≡ walk.junction → P (onward town walk arc)) → All P (queue ++ map (onward town walk) (out_of town walk.junction))
-All-onward town walk P queue old new =
-    All-append P queue (map (onward town walk) (out_of town walk.junction)) old
-    (All-map P (onward town walk) (out_of town walk.junction)
-    (λ k d below. new _ (out_of-legal town walk.junction k d below) (out_of-tail town walk.junction k d below)))
-
 more_times : (m n k : ℕ) → m + 1 ≡ n → m * k + k ≡ n * k
 more_times m n k more = subst (λ x. m * k + k ≡ x * k) more (omega arith)
 
@@ -86,7 +79,7 @@ module _ (town : Town) (from : ℕ) (table : List (Option Arrival)) (walk : Arri
   added = set table walk.junction (Some walk)
 
   abbrev longer : List (Reverse Arrival)
-  longer = queue ++ map (onward town walk) (out_of town walk.junction)
+  longer = queue ++ onward town added walk (out_of town walk.junction)
 
   abbrev popped : List (Reverse Arrival)
   popped = record { 0 = walk } ∷ queue
@@ -106,16 +99,30 @@ module _ (town : Town) (from : ℕ) (table : List (Option Arrival)) (walk : Arri
                   or_left _ _ (is_settled-from added j cost walk there (leb-true _ _ parts.1))
               | inr later ↦
                   or_right (is_settled added j cost) _
-                  (list_any-append (λ q. q.0.junction == j && leb q.0.cost cost) queue (map (onward town walk) (out_of town walk.junction)) ∙ or_left _ _ later)
+                  (list_any-append (λ q. q.0.junction == j && leb q.0.cost cost) queue (onward town added walk (out_of town walk.junction)) ∙ or_left _ _ later)
             ]
       ]
 
-  is_known-onward : (arc : ℕ) → is_legal town arc ≡ true → tail_of town arc ≡ walk.junction → is_known added longer (head_of town arc) (walk.cost + cost_or_zero town arc) ≡ true
-  is_known-onward arc legal leaves =
+  settled_before : IsSearch town from table popped → (j : ℕ) (other : Arrival) → entry_at added j ≡ Some other → other.cost ≤ walk.cost
+  settled_before search j other there =
+      elim (entry_at-cases table walk.junction j walk other (settled_inside search) there) [
+        | inl new ↦ omega (arith, ap (λ w. w.cost) new.1)
+        | inr old ↦ All-head (λ q. other.cost ≤ q.0.cost) (record { 0 = walk }) queue (search.ordered j other old)
+      ]
+
+  is_known-onward : IsSearch town from table popped → (arc : ℕ) → is_legal town arc ≡ true → tail_of town arc ≡ walk.junction → is_known added longer (head_of town arc) (walk.cost + cost_or_zero town arc) ≡ true
+  is_known-onward search arc legal leaves =
+      let j = head_of town arc in
       let cost = walk.cost + cost_or_zero town arc in
-      or_right (is_settled added (head_of town arc) cost) _
-      (list_any-append (λ q. q.0.junction == head_of town arc && leb q.0.cost cost) queue (map (onward town walk) (out_of town walk.junction))
-      ∙ or_right (is_queued queue (head_of town arc) cost) _ (is_queued-onward town walk arc legal leaves))
+      elim (cases_Bool (is_some (entry_at added j))) [
+        | inl settled ↦
+            let other = some_value (entry_at added j) settled in
+            or_left _ _ (is_settled-from added j cost other.0 other.1 (omega (arith, settled_before search j other.0 other.1)))
+        | inr ahead ↦
+            or_right (is_settled added j cost) _
+            (list_any-append (λ q. q.0.junction == j && leb q.0.cost cost) queue (onward town added walk (out_of town walk.junction))
+            ∙ or_right (is_queued queue j cost) _ (is_queued-onward town added walk arc legal leaves (ap not ahead)))
+      ]
 
   pub IsSearch-settled : IsSearch town from table popped → All (λ q. walk.cost ≤ q.0.cost) queue → entry_at table walk.junction ≡ None → IsSearch town from added longer
   IsSearch-settled search least fresh =
@@ -132,27 +139,27 @@ module _ (town : Town) (from : ℕ) (table : List (Option Arrival)) (walk : Arri
           | inl new ↦ (ap (λ w. w.junction) (sym new.1) ∙ sym new.0, subst (IsWalk town from added) new.1 (IsWalk-kept town from table walk.junction walk walk fresh is_walk))
           | inr old ↦ let s = search.settled j other old in (s.0, IsWalk-kept town from table walk.junction walk other fresh s.1)
         ];
-        waiting = All-onward town walk (λ q. IsWalk town from added q.0) queue
+        waiting = All-onward town added walk (λ q. IsWalk town from added q.0) queue
             (All-weaker (λ q. IsWalk town from table q.0) (λ q. IsWalk town from added q.0) (λ q. IsWalk-kept town from table walk.junction walk q.0 fresh) queue (All-tail (λ q. IsWalk town from table q.0) q queue search.waiting))
             (λ arc legal leaves. goes_on walk (entry_at-added table walk.junction walk below) legal leaves refl);
-        inside = All-onward town walk (λ q. q.0.junction < length town.junctions) queue (All-tail (λ q. q.0.junction < length town.junctions) q queue search.inside)
+        inside = All-onward town added walk (λ q. q.0.junction < length town.junctions) queue (All-tail (λ q. q.0.junction < length town.junctions) q queue search.inside)
             (λ arc legal leaves. head_of-below town arc (legal_below town arc legal));
-        few = All-onward town walk (λ q. q.0.hops + unsettled added ≤ length town.junctions) queue
+        few = All-onward town added walk (λ q. q.0.hops + unsettled added ≤ length town.junctions) queue
             (All-weaker (λ q. q.0.hops + unsettled table ≤ length town.junctions) (λ q. q.0.hops + unsettled added ≤ length town.junctions) (λ q h. omega (arith, fewer, h)) queue
             (All-tail (λ q. q.0.hops + unsettled table ≤ length town.junctions) q queue search.few))
             (λ arc legal leaves. omega (arith, fewer, few));
-        cheap = All-onward town walk (λ q. q.0.cost ≤ 1000000000 * q.0.hops) queue (All-tail (λ q. q.0.cost ≤ 1000000000 * q.0.hops) q queue search.cheap)
+        cheap = All-onward town added walk (λ q. q.0.cost ≤ 1000000000 * q.0.hops) queue (All-tail (λ q. q.0.cost ≤ 1000000000 * q.0.hops) q queue search.cheap)
             (λ arc legal leaves. omega (arith, cheap, cost_or_zero-at_most town arc));
         ordered = λ j other there. elim (entry_at-cases table walk.junction j walk other below there) [
-          | inl new ↦ subst (λ w. All (λ q. w.cost ≤ q.0.cost) longer) new.1 (All-onward town walk (λ q. walk.cost ≤ q.0.cost) queue least (λ arc legal leaves. omega arith))
+          | inl new ↦ subst (λ w. All (λ q. w.cost ≤ q.0.cost) longer) new.1 (All-onward town added walk (λ q. walk.cost ≤ q.0.cost) queue least (λ arc legal leaves. omega arith))
           | inr old ↦
               let all = search.ordered j other old in
-              All-onward town walk (λ q. other.cost ≤ q.0.cost) queue (All-tail (λ q. other.cost ≤ q.0.cost) q queue all)
+              All-onward town added walk (λ q. other.cost ≤ q.0.cost) queue (All-tail (λ q. other.cost ≤ q.0.cost) q queue all)
               (λ arc legal leaves. omega (arith, All-head (λ q. other.cost ≤ q.0.cost) q queue all))
         ];
         begun = known from 0 search.begun;
         followed = λ arc other legal there. elim (entry_at-cases table walk.junction (tail_of town arc) walk other below there) [
-          | inl new ↦ subst (λ w. is_known added longer (head_of town arc) (w.cost + cost_or_zero town arc) ≡ true) new.1 (is_known-onward arc legal new.0)
+          | inl new ↦ subst (λ w. is_known added longer (head_of town arc) (w.cost + cost_or_zero town arc) ≡ true) new.1 (is_known-onward search arc legal new.0)
           | inr old ↦ known (head_of town arc) _ (search.followed arc other legal old)
         ];
       }
@@ -160,15 +167,14 @@ module _ (town : Town) (from : ℕ) (table : List (Option Arrival)) (walk : Arri
   -- and less work is left
   pub work_left-less : IsSearch town from table popped → entry_at table walk.junction ≡ None → work_left town added longer < work_left town table popped
   work_left-less search fresh =
-      let few = length-out_of town walk.junction in
-      let long = length-append queue (map (onward town walk) (out_of town walk.junction)) in
-      let same = length-map (out_of town walk.junction) (onward town walk) in
+      let few = length-onward town added walk in
+      let long = length-append queue (onward town added walk (out_of town walk.junction)) in
       omega (arith, more_times (unsettled added) (unsettled table) (2 * length town.streets + 1) (unsettled-added table walk.junction walk (settled_inside search) fresh))
 
   -- the same for the queue as it is then, and the arcs as they were lent
-  module _ (lent : Town) (arcs : List ℕ) (new : List (Reverse Arrival)) (same : lent ≡ town) (lent_arcs : arcs ≡ out_of town walk.junction) (moved : IsPermutation (queue ++ map (onward lent walk) arcs) new) where
+  module _ (lent : Town) (arcs : List ℕ) (new : List (Reverse Arrival)) (same : lent ≡ town) (lent_arcs : arcs ≡ out_of town walk.junction) (moved : IsPermutation (queue ++ onward lent added walk arcs) new) where
     moved_from : IsPermutation longer new
-    moved_from = subst (λ t. IsPermutation (queue ++ map (onward t walk) (out_of town walk.junction)) new) same (subst (λ l. IsPermutation (queue ++ map (onward lent walk) l) new) lent_arcs moved)
+    moved_from = subst (λ t. IsPermutation (queue ++ onward t added walk (out_of town walk.junction)) new) same (subst (λ l. IsPermutation (queue ++ onward lent added walk l) new) lent_arcs moved)
 
     pub settles : IsSearch town from table popped → All (λ q. walk.cost ≤ q.0.cost) queue → entry_at table walk.junction ≡ None → IsSearch town from added new
     settles kept least fresh = IsSearch-permutation town from added longer new moved_from (IsSearch-settled kept least fresh)

@@ -1,7 +1,7 @@
 -- What a search for shortest walks keeps true. Its table holds the walks to the junctions that are settled, and
 -- its queue the walks that go on from these by one arc.
-use Rattle.std.specs.Prelude.{◌≡◌, ℕ, ◌+◌, ◌*◌, ◌<◌, ◌≤◌, Bool, true, false, not, ◌&&◌, ◌||◌, ◌==◌, nat_le, List, length, Option, Some, is_some, All, count_by}
-use Rattle.std.specs.List.{list_any}
+use Rattle.std.specs.Prelude.{◌≡◌, ℕ, ◌+◌, ◌*◌, ◌<◌, ◌≤◌, Bool, true, false, not, ◌&&◌, ◌||◌, ◌==◌, nat_le, List, length, map, Option, Some, is_some, All, count_by}
+use Rattle.std.specs.List.{list_any, filter}
 use Rattle.std.specs.Option.{option_map_or}
 use Rattle.std.specs.declared.cmp.Ordering.{Ordering}
 use Rattle.std.specs.Ordering.{nat_cmp, ordering_then}
@@ -48,6 +48,13 @@ pub record IsSearch (town : Town) (from : ℕ) (table : List (Option Arrival)) (
   -- the first junction is known, and so are the heads of the arcs that leave settled ones
   pub begun : is_known table queue from 0 ≡ true
   pub followed : (arc : ℕ) (walk : Arrival) → is_legal town arc ≡ true → entry_at table (tail_of town arc) ≡ Some walk → is_known table queue (head_of town arc) (walk.cost + cost_or_zero town arc) ≡ true
+
+-- the walks that go on from a walk along one of the arcs, to a junction that isn't settled
+abbrev pub leads_on : Town → List (Option Arrival) → ℕ → Bool
+leads_on town table arc = not (is_some (entry_at table (head_of town arc)))
+
+abbrev pub onward : Town → List (Option Arrival) → Arrival → List ℕ → List (Reverse Arrival)
+onward town table walk arcs = map (λ arc. record { 0 = along town walk arc }) (filter (leads_on town table) arcs)
 
 -- how much of the search is left: a junction that is settled puts the arcs that leave it into the queue
 abbrev pub work_left : Town → List (Option Arrival) → List (Reverse Arrival) → ℕ

@@ -1,11 +1,11 @@
 //! The search for shortest walks: the junctions are settled in the order of their distances.
-ghost use Rattle.std.specs.Prelude.{◌≡◌, ℕ, ◌*◌, ◌<◌, ◌≤◌, true, None, [], ◌∷◌, ◌++◌, length, map, replicate, All, IfOk, OnOk};
+ghost use Rattle.std.specs.Prelude.{◌≡◌, ℕ, ◌*◌, ◌<◌, ◌≤◌, true, None, [], ◌∷◌, ◌++◌, length, replicate, All, IfOk, OnOk};
 ghost use Rattle.std.specs.List.Sorted.{IsPermutation};
 ghost use Rattle.std.specs.BinaryHeap.{IsHeap, KeepsHeap, heap_items};
 ghost use Rattle.wrp_town.specs.Arcs.{is_legal};
-ghost use Rattle.wrp_paths.specs.Arrivals.{along, entry_at};
+ghost use Rattle.wrp_paths.specs.Arrivals.{entry_at};
 ghost use Rattle.wrp_paths.specs.Distances.{AreShortest};
-ghost use Rattle.wrp_paths.specs.Search.{IsSearch, dearer_first, work_left};
+ghost use Rattle.wrp_paths.specs.Search.{IsSearch, dearer_first, onward, work_left};
 
 use crate::arrival::{Arrival, entry};
 use crate::paths::Paths;
@@ -77,21 +77,36 @@ fn settle(
         < work_left graph.now table.old (record { 0 = walk } ∷ heap_items queue.old)) }
 {
     table[walk.junction as usize] = Some(walk);
-    go_on(graph.town(), walk, graph.out_of(walk.junction), queue)
+    go_on(
+        graph.town(),
+        table,
+        walk,
+        graph.out_of(walk.junction),
+        queue,
+    )
 }
 
-/// Puts the walks into the queue that go on from a walk along one of the arcs.
-fn go_on(town: &Town, walk: Arrival, arcs: &[u32], queue: &mut Queue) -> Result<(), AllocError>
+/// Puts the walks into the queue that go on from a walk, along one of the arcs, to a junction that isn't
+/// settled.
+fn go_on(
+    town: &Town,
+    table: &[Option<Arrival>],
+    walk: Arrival,
+    arcs: &[u32],
+    queue: &mut Queue,
+) -> Result<(), AllocError>
     requires legal { All (λ arc. is_legal town.now arc ≡ true) arcs.now }
     requires few { walk.hops < 2000 }
     requires cheap { walk.cost ≤ 1000000000 * walk.hops }
     ensures queued { OnOk result (IsPermutation
-        (heap_items queue.old ++ map (λ arc. record { 0 = along town.now walk arc }) arcs.now)
-        (heap_items queue.new)) }
+        (heap_items queue.old ++ onward town.now table.now walk arcs.now) (heap_items queue.new)) }
     ensures order { OnOk result (KeepsHeap dearer_first (heap_items queue.old) (heap_items queue.new)) }
 {
     for arc in arcs {
-        queue.push(Reverse(walk.along(town, *arc)))?;
+        let next = walk.along(town, *arc);
+        if entry(table, next.junction).is_none() {
+            queue.push(Reverse(next))?;
+        }
     }
     Ok(())
 }
