@@ -60,7 +60,7 @@ pub record IsUnbalanced (town : Town) (counts : List ℕ) (junction : ℕ) : Typ
 -- every junction is balanced, and the second arc is the least one outside the piece of the first, which is the
 -- least of all that are traversed
 pub record AreApart (town : Town) (counts : List ℕ) (first other : ℕ) : Type 0 where
-  pub balanced : (j : ℕ) → j < length town.junctions → leaving town counts j ≡ entering town counts j
+  pub balanced : AreBalanced town counts
   pub first_used : is_used counts first ≡ true
   pub first_least : (arc : ℕ) → arc < first → is_used counts arc ≡ false
   pub other_used : is_used counts other ≡ true
