@@ -7,6 +7,3 @@ mod graph;
 
 pub use buckets::Buckets;
 pub use graph::Graph;
-
-#[cfg(test)]
-mod tests;

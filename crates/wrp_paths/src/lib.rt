@@ -4,8 +4,6 @@
 mod arrival;
 mod paths;
 mod search;
-#[cfg(test)]
-mod tests;
 
 pub use paths::Paths;
 pub use search::shortest;
