@@ -4,7 +4,7 @@ use Rattle.std.proofs.Math.Bool.{and-true, and-false}
 use Rattle.std.proofs.lemmas.Bool.{and_parts, and_from, cases_Bool, eqb-true, le-leb, false≢true}
 use Rattle.std.proofs.lemmas.List.{length-append}
 use Rattle.wrp_proof.specs.Lines.{spaced}
-use Rattle.wrp_proof.specs.Numbers.{IsFirstBad, are_few_pairs, is_next_first}
+use Rattle.wrp_proof.specs.Numbers.{IsFirstBad, are_few_pairs, is_next_first, is_next_pair}
 use Rattle.wrp_proof.specs.Parts.{parts_of, number_of, is_index_part, is_from_one_part, is_colon, first_half, second_half, is_pair, pair_of, are_pair_parts}
 use Rattle.wrp_proof.proofs.FirstNumbers.{KeepsTo, keeps-more, keeps-bad}
 use Rattle.wrp_proof.proofs.PairLists.{go_up, go_up-start, few-parts}
@@ -28,7 +28,7 @@ other-second (b ∷ part) second = elim (cases_Bool (is_colon b)) [
 
 -- the next pair goes up where its first number does and its second is in range
 next-pair : (most low room : ℕ) (part : List ℕ) (ps : List (List ℕ))
-    → go_up most low room (part ∷ ps) ≡ ((is_next_first low room part && is_from_one_part most (second_half part)) && go_up most (number_of (first_half part) + 1) (room - 1) ps)
+    → go_up most low room (part ∷ ps) ≡ (is_next_pair most low room part && go_up most (number_of (first_half part) + 1) (room - 1) ps)
 next-pair most low room part ps =
     ap (λ b. b && go_up most (number_of (first_half part) + 1) (room - 1) ps)
     (swap (is_index_part (first_half part)) (is_from_one_part most (second_half part)) (nat_lt 0 room && nat_le low (number_of (first_half part))))
@@ -53,7 +53,7 @@ pub pairs-start : (most room : ℕ) (line : List ℕ) → KeepsTo (are_few_pairs
 pairs-start most room line = record { before = []; parts = refl; same = λ ps. sym (go_up-start most room ps); size = omega arith }
 
 pub pairs-more : (most all low room next less : ℕ) (line left part others : List ℕ) → KeepsTo (are_few_pairs most all) (go_up most low room) line left → parts_of left ≡ part ∷ parts_of others → length left ≡ length part + length others + 1
-    → (is_next_first low room part && is_from_one_part most (second_half part)) ≡ true → next ≡ number_of (first_half part) + 1 → less ≡ room - 1 → KeepsTo (are_few_pairs most all) (go_up most next less) line others
+    → is_next_pair most low room part ≡ true → next ≡ number_of (first_half part) + 1 → less ≡ room - 1 → KeepsTo (are_few_pairs most all) (go_up most next less) line others
 pairs-more most all low room next less line left part others h e size good is_next is_less =
     keeps-more (are_few_pairs most all) (go_up most low room) (go_up most next less) line left part others h e size
     (λ ps. next-pair most low room part ps
@@ -62,7 +62,7 @@ pairs-more most all low room next less line left part others h e size good is_ne
     ∙ ap (λ n. go_up most next n ps) (sym is_less))
 
 pub pairs-bad : (most all low room : ℕ) (line left part others : List ℕ) (inner at : ℕ) → KeepsTo (are_few_pairs most all) (go_up most low room) line left → parts_of left ≡ part ∷ parts_of others → 0 < most
-    → (is_next_first low room part && is_from_one_part most (second_half part)) ≡ false → inner ≡ cond (is_next_first low room part) (length part - length (second_half part)) 0 → at ≡ length line - length left + 1 + inner
+    → is_next_pair most low room part ≡ false → inner ≡ cond (is_next_first low room part) (length part - length (second_half part)) 0 → at ≡ length line - length left + 1 + inner
     → IsFirstBad (are_few_pairs most all) line at
 pairs-bad most all low room line left part others inner at h e some bad place where_at =
     keeps-bad (are_few_pairs most all) (go_up most low room) line left part others inner at h e refl

@@ -86,3 +86,7 @@ are_few_pairs most room parts = are_pair_parts most parts && nat_le (length part
 -- the first number of the next pair breaks no rule: it is written right, there is room, and it isn't below low
 abbrev pub is_next_first : ℕ → ℕ → List ℕ → Bool
 is_next_first low room part = is_index_part (first_half part) && (nat_lt 0 room && nat_le low (number_of (first_half part)))
+
+-- the first number of the next pair and its second number break no rule
+abbrev pub is_next_pair : ℕ → ℕ → ℕ → List ℕ → Bool
+is_next_pair most low room part = is_next_first low room part && is_from_one_part most (second_half part)

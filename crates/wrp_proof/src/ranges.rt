@@ -1,8 +1,8 @@
 //! Where a line of a record breaks a rule of numbers. Nothing here takes memory.
-ghost use Rattle.std.specs.Prelude.{◌≡◌, ◌<◌, ◌≤◌, ◌+◌, ◌-◌, ◌^◌, ◌&&◌, if◌then◌else◌, true, false, length, IfOk, IfErr};
+ghost use Rattle.std.specs.Prelude.{◌≡◌, ◌<◌, ◌≤◌, ◌+◌, ◌-◌, ◌^◌, if◌then◌else◌, true, false, length, IfOk, IfErr};
 ghost use Rattle.std.specs.List.{list_all};
-ghost use Rattle.wrp_proof.specs.Parts.{parts_of, first_half, second_half, number_of, is_step, is_from_one_part, are_set_parts};
-ghost use Rattle.wrp_proof.specs.Numbers.{keeps_then, is_in_range, others_keep_rules, are_labels, are_few_pairs, is_next_first, keeps_rules, IsPlaceOfBad};
+ghost use Rattle.wrp_proof.specs.Parts.{parts_of, first_half, second_half, number_of, is_step, are_set_parts};
+ghost use Rattle.wrp_proof.specs.Numbers.{keeps_then, is_in_range, others_keep_rules, are_labels, are_few_pairs, is_next_first, is_next_pair, keeps_rules, IsPlaceOfBad};
 
 use crate::labels::is_slash_text;
 use crate::numbers::next_low;
@@ -66,7 +66,9 @@ pub(crate) fn number_place(letter: u8, left: &[u8]) -> usize
 /// The place of the first number that breaks a rule, among three numbers and others.
 fn after_three(left: &[u8], one: Range, two: Range, three: Range, others: Others) -> usize
     ensures within { result ≤ length left.now }
-    ensures first { IsPlaceOfBad (keeps_then (is_in_range one) (keeps_then (is_in_range two) (keeps_then (is_in_range three) (others_keep_rules others)))) left.now result }
+    ensures first { IsPlaceOfBad
+        (keeps_then (is_in_range one) (keeps_then (is_in_range two) (keeps_then (is_in_range three) (others_keep_rules others))))
+        left.now result }
 {
     let Some((number, behind)) = split_part(left) else {
         return 0;
@@ -80,7 +82,9 @@ fn after_three(left: &[u8], one: Range, two: Range, three: Range, others: Others
 /// The place of the first number that breaks a rule, among two numbers and others.
 fn after_two(left: &[u8], one: Range, two: Range, others: Others) -> usize
     ensures within { result ≤ length left.now }
-    ensures first { IsPlaceOfBad (keeps_then (is_in_range one) (keeps_then (is_in_range two) (others_keep_rules others))) left.now result }
+    ensures first { IsPlaceOfBad
+        (keeps_then (is_in_range one) (keeps_then (is_in_range two) (others_keep_rules others)))
+        left.now result }
 {
     let Some((number, behind)) = split_part(left) else {
         return 0;
@@ -178,7 +182,7 @@ fn steps_number(line: &[u8]) -> usize
     line.len()
 }
 
-/// The place of the first number of pairs that breaks a rule, where there is room for so many.
+/// The place of the first number that breaks a rule, among pairs of which there may be as many as `room`.
 fn pairs_number(line: &[u8], most: u128, room: usize) -> usize
     requires { most < 2 ^ 99 }
     ensures within { result ≤ length line.now }
@@ -202,9 +206,8 @@ fn pairs_number(line: &[u8], most: u128, room: usize) -> usize
 fn pair_number(part: &[u8], most: u128, low: u64, room: usize) -> Result<u64, usize>
     requires { most < 2 ^ 99 }
     ensures within { IfErr result (λ at. at ≤ length part.now) }
-    ensures next { IfOk result (λ next. ((is_next_first low room part.now && is_from_one_part most (second_half part.now)) ≡ true)
-        × (next ≡ number_of (first_half part.now) + 1)) }
-    ensures bad { IfErr result (λ at. (is_next_first low room part.now && is_from_one_part most (second_half part.now)) ≡ false) }
+    ensures next { IfOk result (λ next. (is_next_pair most low room part.now ≡ true) × (next ≡ number_of (first_half part.now) + 1)) }
+    ensures bad { IfErr result (λ at. is_next_pair most low room part.now ≡ false) }
     ensures place { IfErr result (λ at. at ≡ (if is_next_first low room part.now then length part.now - length (second_half part.now) else 0)) }
 {
     let (first, second) = halves(part);
