@@ -1,0 +1,5 @@
+//! Worked towns: what the calls of the street network answer where a person knows the answer.
+#![tactic(auto)]
+
+#[cfg(test)]
+mod tests;
