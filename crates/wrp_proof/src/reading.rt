@@ -19,7 +19,25 @@ use crate::views::{View, ViewFault};
 /// A line of a proof has at most as many bytes.
 const MOST_BYTES: usize = 1 << 28;
 
-/// The view of the line of a record.
+/// The view of the line of a record. It takes no memory.
+///
+/// A view lends from its line and can't be kept after it. So the compiler refuses this function, since it
+/// returns a value that lends from its own variable `line`:
+///
+/// ```compile_fail
+/// fn kept_view(alloc: Global) -> Result<View<'static>, AllocError> {
+///     let line = Vec::from_slice(alloc, b"b 0 2 1:1 3:5")?;
+///     match view(line.as_slice()) {
+///         Ok(view) => Ok(view),
+///         Err(_) => Ok(View::Blind { node: 0 }),
+///     }
+/// }
+/// ```
+///
+/// # Errors
+///
+/// `Long` where the line has more than 2^28 bytes, else `Form` where it isn't in the shape of a record, and
+/// else `Number`.
 pub fn view(line: &[u8]) -> Result<View<'_>, ViewFault>
     ensures found { IfOk result (λ v. IsLineOf (record_of v) line.now) }
     ensures spelled { IfOk result (λ v. record_spelled line.now ≡ Some (record_of v)) }
