@@ -10,7 +10,7 @@ use Rattle.wrp_sums.proofs.Integers.{linear}
 use Rattle.wrp_sums.proofs.SumsOver.{sum_over-push}
 use Rattle.wrp_town.specs.declared.town.Town.{Town}
 use Rattle.wrp_town.specs.Arcs.{is_legal, tail_of, head_of}
-use Rattle.wrp_proof.specs.Rows.{balance_row, one_if}
+use Rattle.wrp_rules.specs.Rows.{balance_row, one_if}
 use Rattle.wrp_check.specs.declared.pool.SparseRow.{SparseRow}
 use Rattle.wrp_check.specs.Pools.{IsSmallTerm}
 use Rattle.wrp_check.specs.Sparse.{bare_row, with_term, IsBalanceBelow, AreBalancesBelow}

@@ -5,14 +5,14 @@ use Rattle.std.proofs.lemmas.List.{append-nil}
 use Rattle.std.proofs.lemmas.List.Folds.{list_any-append}
 use Rattle.std.specs.List.{list_all, list_any}
 use Rattle.wrp_town.specs.declared.town.Town.{Town}
-use Rattle.wrp_proof.specs.declared.record.Record.{Record}
-use Rattle.wrp_proof.specs.declared.record.Record.TheVariants.{Bound}
-use Rattle.wrp_proof.specs.declared.rule.Rule.{Rule}
-use Rattle.wrp_proof.specs.declared.rule.Rule.TheVariants as rules
-use Rattle.wrp_proof.specs.Rows.{base_rows}
-use Rattle.wrp_proof.specs.Nodes.{Standing, root, with_bound, is_below, bound_value, after}
-use Rattle.wrp_proof.specs.Rules.{has_number_rules, is_labels, first_broken}
-use Rattle.wrp_proof.specs.Judged.{judged_rule}
+use Rattle.wrp_rules.specs.declared.record.Record.{Record}
+use Rattle.wrp_rules.specs.declared.record.Record.TheVariants.{Bound}
+use Rattle.wrp_rules.specs.declared.rule.Rule.{Rule}
+use Rattle.wrp_rules.specs.declared.rule.Rule.TheVariants as rules
+use Rattle.wrp_rules.specs.Rows.{base_rows}
+use Rattle.wrp_rules.specs.Nodes.{Standing, root, with_bound, is_below, bound_value, after}
+use Rattle.wrp_rules.specs.Rules.{has_number_rules, is_labels, first_broken}
+use Rattle.wrp_rules.specs.Judged.{judged_rule}
 use Rattle.wrp_check.specs.declared.judge.Judge.{Judge}
 use Rattle.wrp_check.specs.declared.bound.Judged.{Judged}
 use Rattle.wrp_check.specs.declared.bound.Judged.TheVariants as judged_as

@@ -10,21 +10,21 @@ use Rattle.std.proofs.lemmas.Fmt.{length-decimal-le}
 use Rattle.std.proofs.lemmas.List.Folds.{list_all-append}
 use Rattle.wrp_town.specs.declared.street.Step.{Step}
 use Rattle.wrp_town.specs.declared.town.Town.{Town}
-use Rattle.wrp_proof.specs.declared.record.Record.{Record}
-use Rattle.wrp_proof.specs.declared.record.Record.TheVariants.{Tour, Conn, Odd, Round, Kc, Bound, Empty, Apart, Point, Blind, Split, Labels}
-use Rattle.wrp_proof.specs.declared.record.End.TheVariants.{Optimal}
-use Rattle.wrp_proof.specs.declared.rule.Rule.{Rule}
-use Rattle.wrp_proof.specs.Nodes.{Standing, start, after, standing}
-use Rattle.wrp_proof.specs.Lines.{line_of, end_line, step_text, pair_text}
-use Rattle.wrp_proof.specs.Lists.{goes_on, is_done, is_upper, agrees}
-use Rattle.wrp_proof.specs.Rules.{is_index, is_count, is_from_one, is_ascending, are_pairs, are_multipliers, has_number_rules, broken_rule}
-use Rattle.wrp_proof.specs.Judged.{is_judged, go_on_judged, are_judged}
+use Rattle.wrp_rules.specs.declared.record.Record.{Record}
+use Rattle.wrp_rules.specs.declared.record.Record.TheVariants.{Tour, Conn, Odd, Round, Kc, Bound, Empty, Apart, Point, Blind, Split, Labels}
+use Rattle.wrp_rules.specs.declared.record.End.TheVariants.{Optimal}
+use Rattle.wrp_rules.specs.declared.rule.Rule.{Rule}
+use Rattle.wrp_rules.specs.Nodes.{Standing, start, after, standing}
+use Rattle.wrp_rules.specs.Lines.{line_of, end_line, step_text, pair_text}
+use Rattle.wrp_rules.specs.Lists.{goes_on, is_done, is_upper, agrees}
+use Rattle.wrp_rules.specs.Rules.{is_index, is_count, is_from_one, is_ascending, are_pairs, are_multipliers, has_number_rules, broken_rule}
+use Rattle.wrp_rules.specs.Judged.{is_judged, go_on_judged, are_judged}
 use Rattle.wrp_proof.specs.Views.{is_later}
-use Rattle.wrp_proof.specs.Proofs.{Version, version_1, version_2, ended, record_lines, IsProofBy}
-use Rattle.wrp_proof.proofs.Written.{text-number}
-use Rattle.wrp_proof.proofs.WrittenPairs.{number_digits}
-use Rattle.wrp_proof.proofs.Spacing.{spread}
-use Rattle.wrp_proof.proofs.PairLists.{index-of_most}
+use Rattle.wrp_rules.specs.Proofs.{Version, version_1, version_2, ended, record_lines, IsProofBy}
+use Rattle.wrp_lines.proofs.Written.{text-number}
+use Rattle.wrp_lines.proofs.WrittenPairs.{number_digits}
+use Rattle.wrp_lines.proofs.Spacing.{spread}
+use Rattle.wrp_lines.proofs.PairLists.{index-of_most}
 use Rattle.wrp_proof.proofs.LineLaws.{line-spelled}
 use Rattle.wrp_proof.proofs.SpelledLaws.{is_viewed, Tried, passes-tried, end_line-spelled}
 use Rattle.wrp_check.specs.Streams.{most_bytes, is_one_line}

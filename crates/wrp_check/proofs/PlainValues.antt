@@ -14,8 +14,8 @@ use Rattle.wrp_sums.proofs.FirstNumbers.{passes_of_inside}
 use Rattle.wrp_town.specs.declared.town.Town.{Town}
 use Rattle.wrp_town.specs.Arcs.{is_legal, arcs, legal_arcs, cost_or_zero}
 use Rattle.wrp_town.proofs.TownLaws.{legal_below}
-use Rattle.wrp_proof.specs.Rows.{Row, row_at}
-use Rattle.wrp_proof.specs.Nodes.{Node, program, bound_value}
+use Rattle.wrp_rules.specs.Rows.{Row, row_at}
+use Rattle.wrp_rules.specs.Nodes.{Node, program, bound_value}
 use Rattle.wrp_check.specs.declared.pool.Pool.{Pool}
 use Rattle.wrp_check.specs.declared.bound.Judged.TheVariants.{Missing, Negative, Bound}
 use Rattle.wrp_check.specs.Pools.{Holds, has_rows, weighted_coef, weighted_side, is_plain, judged}

@@ -16,7 +16,7 @@ use Rattle.wrp_town.specs.declared.town.Town.{Town}
 use Rattle.wrp_town.specs.Streets.{demands_at, demands_from}
 use Rattle.wrp_town.specs.Arcs.{is_legal, junctions, demands}
 use Rattle.wrp_town.proofs.TownLaws.{few_streets, legal_below}
-use Rattle.wrp_proof.specs.Rows.{one_if, balance_row, service_row, base_rows}
+use Rattle.wrp_rules.specs.Rows.{one_if, balance_row, service_row, base_rows}
 use Rattle.wrp_check.specs.declared.pool.SparseRow.{SparseRow}
 use Rattle.wrp_check.specs.Pools.{IsSmallTerm, IsRow}
 use Rattle.wrp_check.specs.Sparse.{bare_row, sparse_service, IsBalanceBelow, AreBalancesBelow}

@@ -7,18 +7,19 @@ use Rattle.std.proofs.lemmas.List.Splits.{join_with_byte-slice_split}
 use Rattle.std.proofs.lemmas.Slice.Eq.{bytes_eq-Decides}
 use Rattle.wrp_town.specs.declared.town.Town.{Town}
 use Rattle.wrp_town.specs.Arcs.{is_small}
-use Rattle.wrp_proof.specs.declared.record.Record.{Record}
-use Rattle.wrp_proof.specs.declared.record.End.{End}
-use Rattle.wrp_proof.specs.declared.rule.Rule.{Rule}
-use Rattle.wrp_proof.specs.declared.rule.Rule.TheVariants as rules
-use Rattle.wrp_proof.specs.Nodes.{Standing, start, after}
-use Rattle.wrp_proof.specs.Lines.{line_of, end_line}
-use Rattle.wrp_proof.specs.Lists.{goes_on, agrees}
-use Rattle.wrp_proof.specs.Rules.{broken_rule}
-use Rattle.wrp_proof.specs.Judged.{is_judged, go_on_judged, judged_rule}
-use Rattle.wrp_proof.specs.Views.{is_later, has_shape, spelled}
+use Rattle.wrp_rules.specs.declared.record.Record.{Record}
+use Rattle.wrp_rules.specs.declared.record.End.{End}
+use Rattle.wrp_rules.specs.declared.rule.Rule.{Rule}
+use Rattle.wrp_rules.specs.declared.rule.Rule.TheVariants as rules
+use Rattle.wrp_rules.specs.Nodes.{Standing, start, after}
+use Rattle.wrp_rules.specs.Lines.{line_of, end_line}
+use Rattle.wrp_rules.specs.Lists.{goes_on, agrees}
+use Rattle.wrp_rules.specs.Rules.{broken_rule}
+use Rattle.wrp_rules.specs.Judged.{is_judged, go_on_judged, judged_rule}
+use Rattle.wrp_proof.specs.Views.{is_later, spelled}
+use Rattle.wrp_lines.specs.Shapes.{has_shape}
 use Rattle.wrp_proof.specs.Ends.{is_later_end, has_end_shape, spelled_end}
-use Rattle.wrp_proof.specs.Proofs.{Version, version_1, version_2, ended, record_lines, IsProofBy, IsProof}
+use Rattle.wrp_rules.specs.Proofs.{Version, version_1, version_2, ended, record_lines, IsProofBy, IsProof}
 use Rattle.wrp_proof.proofs.SpelledLaws.{spelled_viewed, spelled-end_line, judged-passes}
 use Rattle.wrp_laws.specs.Ends.{EndHolds}
 use Rattle.wrp_laws.proofs.PlainEnds.{proved_end}

@@ -2,12 +2,12 @@
 use Rattle.std.proofs.Common.{inl, inr, ◌⊎◌, ◌≡◌, ◌≢◌, ℕ, ◌+◌, ◌^◌, true, false, cond, ◌==◌, List, [], ◌∷◌, ◌++◌, length, None, Some, Ok, Err, refl, ap, ◌∙◌, subst}
 use Rattle.std.proofs.lemmas.Bool.{eq-eqb, ne_eqb}
 use Rattle.wrp_town.specs.declared.town.Town.{Town}
-use Rattle.wrp_proof.specs.declared.record.Record.{Record}
-use Rattle.wrp_proof.specs.declared.record.End.{End}
-use Rattle.wrp_proof.specs.declared.rule.Rule.{Rule}
-use Rattle.wrp_proof.specs.declared.rule.Rule.TheVariants as rules
-use Rattle.wrp_proof.specs.Nodes.{Standing, start, after}
-use Rattle.wrp_proof.specs.Proofs.{version_1}
+use Rattle.wrp_rules.specs.declared.record.Record.{Record}
+use Rattle.wrp_rules.specs.declared.record.End.{End}
+use Rattle.wrp_rules.specs.declared.rule.Rule.{Rule}
+use Rattle.wrp_rules.specs.declared.rule.Rule.TheVariants as rules
+use Rattle.wrp_rules.specs.Nodes.{Standing, start, after}
+use Rattle.wrp_rules.specs.Proofs.{version_1}
 use Rattle.wrp_check.specs.Streams.{most_bytes, is_one_line, PassesLimit}
 use Rattle.wrp_check.specs.Verdicts.{Verdict, Accepted, Refused, Long, judged_line, judged_end, is_end, is_long, last_verdict, end_verdict, record_verdict, verdict_from, limit_of, version_verdict, first_verdict, lines_in, over_lines, verdict_on, verdict}
 use Rattle.wrp_check.proofs.LineCuts.{lines-more, lines-one, lines_of, some_lines, FirstLine, first_line, long-more, long-one}

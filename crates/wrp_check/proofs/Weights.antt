@@ -8,8 +8,8 @@ use Rattle.wrp_sums.specs.Sums.{sum_over}
 use Rattle.wrp_sums.proofs.Integers.{linear}
 use Rattle.wrp_town.specs.declared.town.Town.{Town}
 use Rattle.wrp_town.specs.Arcs.{is_legal}
-use Rattle.wrp_proof.specs.Rows.{Row, row_at}
-use Rattle.wrp_proof.specs.Rules.{is_from_one}
+use Rattle.wrp_rules.specs.Rows.{Row, row_at}
+use Rattle.wrp_rules.specs.Rules.{is_from_one}
 use Rattle.wrp_check.specs.declared.pool.SparseRow.{SparseRow}
 use Rattle.wrp_check.specs.declared.pool.Pool.{Pool}
 use Rattle.wrp_check.specs.Pools.{IsSmallRow, IsRow, Holds, sparse_at, has_rows, weighted_coef, weighted_side}

@@ -2,10 +2,10 @@
 use Rattle.std.specs.Prelude.{◌≡◌, ℕ, ◌⊎◌, true, List}
 use Rattle.wrp_town.specs.declared.town.Town.{Town}
 use Rattle.wrp_town.specs.Arcs.{is_small}
-use Rattle.wrp_proof.specs.declared.record.Record.{Record}
-use Rattle.wrp_proof.specs.declared.record.End.{End}
-use Rattle.wrp_proof.specs.Judged.{are_judged}
-use Rattle.wrp_proof.specs.Proofs.{version_1, version_2, IsProofBy}
+use Rattle.wrp_rules.specs.declared.record.Record.{Record}
+use Rattle.wrp_rules.specs.declared.record.End.{End}
+use Rattle.wrp_rules.specs.Judged.{are_judged}
+use Rattle.wrp_rules.specs.Proofs.{version_1, version_2, IsProofBy}
 
 -- the bytes are a proof of the town with this end, each record of which is judged; version 1 is for small towns
 abbrev pub IsJudgedProof : Town → End → List ℕ → Type 0

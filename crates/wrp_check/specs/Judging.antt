@@ -3,14 +3,14 @@ use Rattle.std.specs.Prelude.{◌≡◌, ℕ, ◌*◌, Bool, false, not, ◌&&�
 use Rattle.std.specs.Option.{option_map_or}
 use Rattle.std.specs.List.{list_any}
 use Rattle.wrp_town.specs.declared.town.Town.{Town}
-use Rattle.wrp_proof.specs.declared.record.Record.{Record}
-use Rattle.wrp_proof.specs.declared.rule.Rule.{Rule}
-use Rattle.wrp_proof.specs.declared.rule.Rule.TheVariants as rules
-use Rattle.wrp_proof.specs.Rows.{base_rows}
-use Rattle.wrp_proof.specs.Nodes.{Standing, root, with_bound, after, is_below}
-use Rattle.wrp_proof.specs.declared.record.End.{End}
-use Rattle.wrp_proof.specs.declared.record.End.TheVariants.{Optimal, Infeasible, Unfinished}
-use Rattle.wrp_proof.specs.Rules.{is_labels, int_eq}
+use Rattle.wrp_rules.specs.declared.record.Record.{Record}
+use Rattle.wrp_rules.specs.declared.rule.Rule.{Rule}
+use Rattle.wrp_rules.specs.declared.rule.Rule.TheVariants as rules
+use Rattle.wrp_rules.specs.Rows.{base_rows}
+use Rattle.wrp_rules.specs.Nodes.{Standing, root, with_bound, after, is_below}
+use Rattle.wrp_rules.specs.declared.record.End.{End}
+use Rattle.wrp_rules.specs.declared.record.End.TheVariants.{Optimal, Infeasible, Unfinished}
+use Rattle.wrp_rules.specs.Rules.{is_labels, int_eq}
 use Rattle.wrp_check.specs.declared.judge.Judge.{Judge}
 use Rattle.wrp_check.specs.declared.bound.Judged.{Judged}
 use Rattle.wrp_check.specs.declared.bound.Judged.TheVariants as judged_as

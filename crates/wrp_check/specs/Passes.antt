@@ -2,9 +2,9 @@
 use Rattle.std.specs.Prelude.{◌≡◌, ◌≢◌, ℕ, ◌+◌, ◌<◌, ◌≤◌, ◌^◌, Bool, true, false, List, [], ◌∷◌, ◌++◌, length, Option}
 use Rattle.wrp_out.specs.Told.{Took, Tells}
 use Rattle.wrp_town.specs.declared.town.Town.{Town}
-use Rattle.wrp_proof.specs.declared.record.End.{End}
-use Rattle.wrp_proof.specs.declared.rule.Rule.TheVariants as rules
-use Rattle.wrp_proof.specs.Nodes.{Standing, start}
+use Rattle.wrp_rules.specs.declared.record.End.{End}
+use Rattle.wrp_rules.specs.declared.rule.Rule.TheVariants as rules
+use Rattle.wrp_rules.specs.Nodes.{Standing, start}
 use Rattle.wrp_check.specs.declared.pass.CheckFault.{CheckFault}
 use Rattle.wrp_check.specs.declared.pass.CheckFault.TheVariants as faults
 use Rattle.wrp_check.specs.declared.judge.Judge.{Judge}

@@ -5,8 +5,8 @@ use Rattle.wrp_sums.specs.Sums.{sum_over, coef_at}
 use Rattle.wrp_sums.specs.Duality.{reduced_cost}
 use Rattle.wrp_town.specs.declared.town.Town.{Town}
 use Rattle.wrp_town.specs.Arcs.{is_legal, legal_arcs, cost_or_zero}
-use Rattle.wrp_proof.specs.Rows.{Row}
-use Rattle.wrp_proof.specs.Nodes.{Node, program, bound_value}
+use Rattle.wrp_rules.specs.Rows.{Row}
+use Rattle.wrp_rules.specs.Nodes.{Node, program, bound_value}
 use Rattle.wrp_check.specs.declared.pool.SparseRow.{SparseRow}
 use Rattle.wrp_check.specs.declared.pool.Pool.{Pool}
 use Rattle.wrp_check.specs.declared.bound.Judged.{Judged}

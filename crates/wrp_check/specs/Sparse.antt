@@ -4,7 +4,7 @@ use Rattle.std.specs.List.{All, filter}
 use Rattle.wrp_sums.specs.Sums.{coef_at}
 use Rattle.wrp_town.specs.declared.town.Town.{Town}
 use Rattle.wrp_town.specs.Arcs.{is_legal}
-use Rattle.wrp_proof.specs.Rows.{balance_row}
+use Rattle.wrp_rules.specs.Rows.{balance_row}
 use Rattle.wrp_check.specs.declared.pool.SparseRow.{SparseRow}
 use Rattle.wrp_check.specs.Pools.{IsSmallTerm}
 

@@ -5,16 +5,17 @@ use Rattle.std.specs.List.{slice_split, starts_with}
 use Rattle.std.specs.Str.{bytes_eq}
 use Rattle.wrp_town.specs.declared.town.Town.{Town}
 use Rattle.wrp_town.specs.Arcs.{is_small}
-use Rattle.wrp_proof.specs.declared.record.Record.{Record}
-use Rattle.wrp_proof.specs.declared.record.End.{End}
-use Rattle.wrp_proof.specs.declared.rule.Rule.{Rule}
-use Rattle.wrp_proof.specs.declared.rule.Rule.TheVariants as rules
-use Rattle.wrp_proof.specs.Nodes.{Standing, start, after}
-use Rattle.wrp_proof.specs.Lists.{agrees}
-use Rattle.wrp_proof.specs.Judged.{judged_rule}
-use Rattle.wrp_proof.specs.Views.{is_later, has_shape, spelled}
+use Rattle.wrp_rules.specs.declared.record.Record.{Record}
+use Rattle.wrp_rules.specs.declared.record.End.{End}
+use Rattle.wrp_rules.specs.declared.rule.Rule.{Rule}
+use Rattle.wrp_rules.specs.declared.rule.Rule.TheVariants as rules
+use Rattle.wrp_rules.specs.Nodes.{Standing, start, after}
+use Rattle.wrp_rules.specs.Lists.{agrees}
+use Rattle.wrp_rules.specs.Judged.{judged_rule}
+use Rattle.wrp_proof.specs.Views.{is_later, spelled}
+use Rattle.wrp_lines.specs.Shapes.{has_shape}
 use Rattle.wrp_proof.specs.Ends.{is_later_end, has_end_shape, spelled_end}
-use Rattle.wrp_proof.specs.Proofs.{version_1, version_2}
+use Rattle.wrp_rules.specs.Proofs.{version_1, version_2}
 use Rattle.wrp_check.specs.declared.pass.CheckFault.{CheckFault}
 use Rattle.wrp_check.specs.declared.pass.CheckFault.TheVariants as faults
 use Rattle.wrp_check.specs.Streams.{most_bytes}

@@ -3,7 +3,7 @@ ghost use Rattle.std.specs.Prelude.{◌≡◌, ℕ, ◌+◌, ◌*◌, ◌<◌, �
 ghost use Rattle.std.specs.List.{All};
 ghost use Rattle.wrp_town.specs.Streets.{demands_at};
 ghost use Rattle.wrp_town.specs.Arcs.{demands};
-ghost use Rattle.wrp_proof.specs.Rows.{base_rows};
+ghost use Rattle.wrp_rules.specs.Rows.{base_rows};
 ghost use Rattle.wrp_check.specs.Pools.{Holds};
 ghost use Rattle.wrp_check.specs.Sparse.{bare_row, with_term, sparse_service, AreBalancesBelow};
 

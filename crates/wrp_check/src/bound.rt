@@ -4,9 +4,9 @@ ghost use Rattle.std.specs.List.{All, list_all};
 ghost use Rattle.std.specs.Str.{bytes_eq};
 ghost use Rattle.wrp_sums.specs.Rounding.{ceil_div};
 ghost use Rattle.wrp_town.specs.Arcs.{is_legal, legal_arcs, cost_or_zero};
-ghost use Rattle.wrp_proof.specs.Rows.{Row};
-ghost use Rattle.wrp_proof.specs.Nodes.{Node};
-ghost use Rattle.wrp_proof.specs.Rules.{is_from_one, are_multipliers};
+ghost use Rattle.wrp_rules.specs.Rows.{Row};
+ghost use Rattle.wrp_rules.specs.Nodes.{Node};
+ghost use Rattle.wrp_rules.specs.Rules.{is_from_one, are_multipliers};
 ghost use Rattle.wrp_check.specs.declared.bound.Judged.TheVariants as judged_as;
 ghost use Rattle.wrp_check.specs.Pools.{IsSmallRow, Holds, covers, judged};
 

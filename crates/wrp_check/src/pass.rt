@@ -4,7 +4,7 @@ ghost use Rattle.std.specs.Str.{bytes_eq};
 ghost use Rattle.wrp_out.specs.Counts.{NeverFalls, Rose};
 ghost use Rattle.wrp_out.specs.Told.{Took, Tells};
 ghost use Rattle.wrp_town.specs.declared.town.Town.{Town};
-ghost use Rattle.wrp_proof.specs.Nodes.{Standing};
+ghost use Rattle.wrp_rules.specs.Nodes.{Standing};
 ghost use Rattle.wrp_check.specs.declared.lines.LineFault.TheVariants as line_faults;
 ghost use Rattle.wrp_check.specs.declared.pass.CheckFault.TheVariants as faults;
 ghost use Rattle.wrp_check.specs.Streams.{left_in, most_bytes, drawn, Draws, TookAtMost};
@@ -12,8 +12,8 @@ ghost use Rattle.wrp_check.specs.Verdicts.{verdict, verdict_on, limit_of, judged
 ghost use Rattle.wrp_check.specs.Judging.{IsReady, Stands};
 ghost use Rattle.wrp_check.specs.Passes.{TookLine, Unread, Behind, Begins, GoesOn, Closes, Whole};
 ghost use Rattle.wrp_check.specs.Accepted.{IsJudgedProof};
-ghost use Rattle.wrp_proof.specs.declared.record.End.TheVariants.{Optimal};
-ghost use Rattle.wrp_proof.specs.Proofs.{IsProof};
+ghost use Rattle.wrp_rules.specs.declared.record.End.TheVariants.{Optimal};
+ghost use Rattle.wrp_rules.specs.Proofs.{IsProof};
 ghost use Rattle.wrp_laws.specs.Ends.{EndHolds};
 
 use crate::judge::Judge;

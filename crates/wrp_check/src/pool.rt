@@ -2,7 +2,7 @@
 ghost use Rattle.std.specs.Prelude.{◌≡◌, ℕ, ◌+◌, ◌*◌, ◌^◌, ◌<◌, ◌≤◌, true, pos, ◌+ℤ◌, ◌*ℤ◌, unsigned_abs, length, slice_index_or, is_some, OnSome, IfSome};
 ghost use Rattle.std.specs.List.{All};
 ghost use Rattle.wrp_sums.specs.Sums.{coef_at};
-ghost use Rattle.wrp_proof.specs.Rules.{are_multipliers};
+ghost use Rattle.wrp_rules.specs.Rules.{are_multipliers};
 ghost use Rattle.wrp_check.specs.Pools.{IsSmallTerm, IsSmallRow, sparse_at, has_rows, weighted_coef, weighted_side};
 
 use wrp_proof::PairsOf;

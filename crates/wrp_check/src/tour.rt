@@ -5,9 +5,9 @@ ghost use Rattle.std.specs.List.{list_all};
 ghost use Rattle.wrp_town.specs.declared.street.Step.{Step};
 ghost use Rattle.wrp_town.specs.Streets.{demands_at};
 ghost use Rattle.wrp_town.specs.Walks.{leads, is_closed_walk, serves, serves_all, walk_cost};
-ghost use Rattle.wrp_proof.specs.declared.record.Record.TheVariants.{Tour};
-ghost use Rattle.wrp_proof.specs.Nodes.{Standing, is_below};
-ghost use Rattle.wrp_proof.specs.Rules.{rules_of, first_broken};
+ghost use Rattle.wrp_rules.specs.declared.record.Record.TheVariants.{Tour};
+ghost use Rattle.wrp_rules.specs.Nodes.{Standing, is_below};
+ghost use Rattle.wrp_rules.specs.Rules.{rules_of, first_broken};
 ghost use Rattle.wrp_check.specs.Marks.{MarkArcs};
 
 use wrp_proof::{Rule, StepsOf};

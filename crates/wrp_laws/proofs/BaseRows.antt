@@ -13,7 +13,7 @@ use Rattle.wrp_town.specs.declared.street.Step.{Step}
 use Rattle.wrp_town.specs.declared.town.Town.{Town}
 use Rattle.wrp_town.specs.Arcs.{is_legal, tail_of, head_of, cost_or_zero, legal_arcs, junctions, demands, has_arc, arc_of}
 use Rattle.wrp_town.specs.Walks.{leads, is_closed_walk, serves, serves_all, is_tour, walk_cost, count_of}
-use Rattle.wrp_proof.specs.Rows.{Row, one_if, balance_row, service_row, base_rows, row_at}
+use Rattle.wrp_rules.specs.Rows.{Row, one_if, balance_row, service_row, base_rows, row_at}
 use Rattle.wrp_laws.specs.Meets.{sum_of_uses, MeetsRow}
 use Rattle.wrp_laws.proofs.Counts.{sum_by_counts}
 

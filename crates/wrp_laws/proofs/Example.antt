@@ -8,8 +8,8 @@ use Rattle.wrp_town.specs.declared.street.Need.TheVariants.{Both}
 use Rattle.wrp_town.specs.declared.street.Street.{Street}
 use Rattle.wrp_town.specs.declared.town.Town.{Town}
 use Rattle.wrp_town.specs.Streets.{IsTown}
-use Rattle.wrp_proof.specs.declared.record.Record.{Record}
-use Rattle.wrp_proof.specs.declared.record.Record.TheVariants.{Tour, Bound}
+use Rattle.wrp_rules.specs.declared.record.Record.{Record}
+use Rattle.wrp_rules.specs.declared.record.Record.TheVariants.{Tour, Bound}
 
 abbrev pub names : List (List ℕ)
 names = codes "A" ∷ codes "B" ∷ []

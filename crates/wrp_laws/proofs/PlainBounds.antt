@@ -15,8 +15,8 @@ use Rattle.wrp_town.specs.declared.street.Step.{Step}
 use Rattle.wrp_town.specs.declared.town.Town.{Town}
 use Rattle.wrp_town.specs.Arcs.{legal_arcs}
 use Rattle.wrp_town.specs.Walks.{is_closed_walk, serves_all, is_tour, walk_cost, count_of}
-use Rattle.wrp_proof.specs.Rows.{Row, base_rows, row_at}
-use Rattle.wrp_proof.specs.Nodes.{Node, program, bound_value}
+use Rattle.wrp_rules.specs.Rows.{Row, base_rows, row_at}
+use Rattle.wrp_rules.specs.Nodes.{Node, program, bound_value}
 use Rattle.wrp_laws.specs.Meets.{sum_of_uses, MeetsRow}
 use Rattle.wrp_laws.proofs.BaseRows.{meets_base_row, cost_of_uses}
 

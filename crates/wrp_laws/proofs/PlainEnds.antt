@@ -6,14 +6,14 @@ use Rattle.std.proofs.lemmas.Bool.{eqb-true, and_parts, or_parts, false≢true, 
 use Rattle.wrp_sums.proofs.Integers.{linear, tests}
 use Rattle.wrp_town.specs.declared.town.Town.{Town}
 use Rattle.wrp_town.specs.Walks.{IsLeastCost}
-use Rattle.wrp_proof.specs.declared.record.Record.{Record}
-use Rattle.wrp_proof.specs.declared.record.End.{End}
-use Rattle.wrp_proof.specs.declared.record.End.TheVariants.{Optimal, Infeasible, Unfinished}
-use Rattle.wrp_proof.specs.Nodes.{Node, root, Standing, with_bound, standing, is_open, open_nodes, least_bound, lower}
-use Rattle.wrp_proof.specs.Rules.{is_labels, int_eq}
-use Rattle.wrp_proof.specs.Lists.{is_valid, is_upper, is_done, agrees}
-use Rattle.wrp_proof.specs.Judged.{are_judged}
-use Rattle.wrp_proof.specs.Proofs.{Version, IsProofBy}
+use Rattle.wrp_rules.specs.declared.record.Record.{Record}
+use Rattle.wrp_rules.specs.declared.record.End.{End}
+use Rattle.wrp_rules.specs.declared.record.End.TheVariants.{Optimal, Infeasible, Unfinished}
+use Rattle.wrp_rules.specs.Nodes.{Node, root, Standing, with_bound, standing, is_open, open_nodes, least_bound, lower}
+use Rattle.wrp_rules.specs.Rules.{is_labels, int_eq}
+use Rattle.wrp_rules.specs.Lists.{is_valid, is_upper, is_done, agrees}
+use Rattle.wrp_rules.specs.Judged.{are_judged}
+use Rattle.wrp_rules.specs.Proofs.{Version, IsProofBy}
 use Rattle.wrp_laws.specs.Ends.{IsBetween, EndHolds}
 use Rattle.wrp_laws.proofs.PlainLists.{HasTour, StandsPlain, stands_plain}
 

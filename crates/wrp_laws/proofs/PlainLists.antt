@@ -8,15 +8,15 @@ use Rattle.wrp_sums.proofs.Integers.{linear}
 use Rattle.wrp_town.specs.declared.street.Step.{Step}
 use Rattle.wrp_town.specs.declared.town.Town.{Town}
 use Rattle.wrp_town.specs.Walks.{is_closed_walk, serves_all, is_tour, walk_cost}
-use Rattle.wrp_proof.specs.declared.record.Record.{Record}
-use Rattle.wrp_proof.specs.declared.record.Record.TheVariants.{Tour, Bound}
-use Rattle.wrp_proof.specs.declared.rule.Rule.{Rule}
-use Rattle.wrp_proof.specs.declared.rule.Rule.TheVariants as rules
-use Rattle.wrp_proof.specs.Rows.{Row, base_rows}
-use Rattle.wrp_proof.specs.Nodes.{Node, root, Standing, start, bound_value, node_at, with_bound, changed, after, standing}
-use Rattle.wrp_proof.specs.Rules.{is_labels, has_number_rules, is_from_one, is_count, are_multipliers, is_alone, node_is_there, rows_are_there, first_broken, rules_of, broken_rule}
-use Rattle.wrp_proof.specs.Lists.{goes_on, is_valid}
-use Rattle.wrp_proof.specs.Judged.{has_plain_costs, is_judged, go_on_judged, are_judged}
+use Rattle.wrp_rules.specs.declared.record.Record.{Record}
+use Rattle.wrp_rules.specs.declared.record.Record.TheVariants.{Tour, Bound}
+use Rattle.wrp_rules.specs.declared.rule.Rule.{Rule}
+use Rattle.wrp_rules.specs.declared.rule.Rule.TheVariants as rules
+use Rattle.wrp_rules.specs.Rows.{Row, base_rows}
+use Rattle.wrp_rules.specs.Nodes.{Node, root, Standing, start, bound_value, node_at, with_bound, changed, after, standing}
+use Rattle.wrp_rules.specs.Rules.{is_labels, has_number_rules, is_from_one, is_count, are_multipliers, is_alone, node_is_there, rows_are_there, first_broken, rules_of, broken_rule}
+use Rattle.wrp_rules.specs.Lists.{goes_on, is_valid}
+use Rattle.wrp_rules.specs.Judged.{has_plain_costs, is_judged, go_on_judged, are_judged}
 use Rattle.wrp_laws.proofs.PlainBounds.{is_plain, plain_bound}
 
 -- ---- rules

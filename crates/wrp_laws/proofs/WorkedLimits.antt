@@ -3,12 +3,12 @@ use Rattle.std.specs.Prelude.{map, length, nat_le}
 use Rattle.std.proofs.Common.{Bool, ◌&&◌, ◌^◌, ◌≡◌, ℕ, zero, suc, List, [], ◌∷◌, ◌++◌, Option, None, Some, true, false, refl, ◌∙◌, ap, sym, append-nil, append_assoc}
 use Rattle.std.specs.List.{fold, range_with_len}
 use Rattle.wrp_town.specs.declared.town.Town.{Town}
-use Rattle.wrp_proof.specs.declared.record.Record.{Record}
-use Rattle.wrp_proof.specs.declared.record.Record.TheVariants.{Odd, Bound}
-use Rattle.wrp_proof.specs.declared.rule.Rule.{Rule}
-use Rattle.wrp_proof.specs.declared.rule.Rule.TheVariants as rules
-use Rattle.wrp_proof.specs.Nodes.{Standing, standing, start, after}
-use Rattle.wrp_proof.specs.Rules.{broken_rule, first_broken, has_number_rules, is_alone, rules_of, is_count, is_from_one, are_pairs, are_multipliers}
+use Rattle.wrp_rules.specs.declared.record.Record.{Record}
+use Rattle.wrp_rules.specs.declared.record.Record.TheVariants.{Odd, Bound}
+use Rattle.wrp_rules.specs.declared.rule.Rule.{Rule}
+use Rattle.wrp_rules.specs.declared.rule.Rule.TheVariants as rules
+use Rattle.wrp_rules.specs.Nodes.{Standing, standing, start, after}
+use Rattle.wrp_rules.specs.Rules.{broken_rule, first_broken, has_number_rules, is_alone, rules_of, is_count, is_from_one, are_pairs, are_multipliers}
 use Rattle.wrp_laws.proofs.WorkedTowns.{IsRefused, windy_street}
 use Rattle.wrp_laws.proofs.WorkedLists.{there_and_back}
 

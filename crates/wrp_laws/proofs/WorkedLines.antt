@@ -2,11 +2,12 @@
 use Rattle.std.specs.Prelude.{codes}
 use Rattle.std.specs.Fmt.{digits}
 use Rattle.std.proofs.Common.{◌≡◌, ℕ, true, false, List, [], ◌∷◌, ◌++◌, None, Some, refl, arith}
-use Rattle.wrp_proof.specs.declared.record.Record.TheVariants.{Bound}
-use Rattle.wrp_proof.specs.declared.record.End.TheVariants.{Optimal}
-use Rattle.wrp_proof.specs.Lines.{line_of}
-use Rattle.wrp_proof.specs.Views.{spelled, has_shape}
-use Rattle.wrp_proof.specs.Proofs.{version_1, IsProofBy, ended}
+use Rattle.wrp_rules.specs.declared.record.Record.TheVariants.{Bound}
+use Rattle.wrp_rules.specs.declared.record.End.TheVariants.{Optimal}
+use Rattle.wrp_rules.specs.Lines.{line_of}
+use Rattle.wrp_proof.specs.Views.{spelled}
+use Rattle.wrp_lines.specs.Shapes.{has_shape}
+use Rattle.wrp_rules.specs.Proofs.{version_1, IsProofBy, ended}
 use Rattle.wrp_laws.proofs.WorkedTowns.{windy_street}
 use Rattle.wrp_laws.proofs.WorkedLists.{odd_list}
 

@@ -2,13 +2,13 @@
 use Rattle.std.proofs.Common.{◌≡◌, ℕ, pos, false, List, [], ◌∷◌, Some, refl}
 use Rattle.std.specs.Prelude.{map}
 use Rattle.wrp_town.specs.Arcs.{is_small}
-use Rattle.wrp_proof.specs.declared.record.Record.{Record}
-use Rattle.wrp_proof.specs.declared.record.Record.TheVariants.{Tour, Conn, Odd, Round, Kc, Bound, Empty, Apart, Point, Blind, Split, Labels}
-use Rattle.wrp_proof.specs.declared.record.End.TheVariants.{Optimal, Infeasible, Unfinished}
+use Rattle.wrp_rules.specs.declared.record.Record.{Record}
+use Rattle.wrp_rules.specs.declared.record.Record.TheVariants.{Tour, Conn, Odd, Round, Kc, Bound, Empty, Apart, Point, Blind, Split, Labels}
+use Rattle.wrp_rules.specs.declared.record.End.TheVariants.{Optimal, Infeasible, Unfinished}
 use Rattle.wrp_sums.specs.Duality.{dual_value}
-use Rattle.wrp_proof.specs.Rows.{row_at, kc_row}
-use Rattle.wrp_proof.specs.Nodes.{standing, lower, program, root}
-use Rattle.wrp_proof.specs.Lists.{agrees}
+use Rattle.wrp_rules.specs.Rows.{row_at, kc_row}
+use Rattle.wrp_rules.specs.Nodes.{standing, lower, program, root}
+use Rattle.wrp_rules.specs.Lists.{agrees}
 use Rattle.wrp_laws.proofs.WorkedTowns.{IsAccepted, forth, back, no_street, round_trip, windy_street, one_way_street, closed_street, two_parts, shared_arc, loop_street, parallel_streets, both_ways, one_direction, wrong_direction, dear_return, costly_street, chained_parts, grid}
 
 -- the one tour of a single street, there and back

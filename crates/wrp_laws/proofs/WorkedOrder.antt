@@ -1,7 +1,7 @@
 -- Each rule at a record that breaks it first: nodes, points, labels, numbers and what has to be there.
 use Rattle.std.proofs.Common.{◌+◌, ◌^◌, [], ◌∷◌, refl}
-use Rattle.wrp_proof.specs.declared.record.Record.TheVariants.{Tour, Conn, Odd, Kc, Bound, Empty, Apart, Point, Blind, Split, Labels}
-use Rattle.wrp_proof.specs.declared.rule.Rule.TheVariants as rules
+use Rattle.wrp_rules.specs.declared.record.Record.TheVariants.{Tour, Conn, Odd, Kc, Bound, Empty, Apart, Point, Blind, Split, Labels}
+use Rattle.wrp_rules.specs.declared.rule.Rule.TheVariants as rules
 use Rattle.wrp_laws.proofs.WorkedTowns.{IsRefused, forth, back, windy_street, one_way_street, two_parts, dear_return, chained_parts}
 use Rattle.wrp_laws.proofs.WorkedLists.{there_and_back, parts_tour, chain_tour, odd_list}
 

@@ -1,8 +1,8 @@
 -- Records that a rule refuses, worked out on small towns.
 use Rattle.std.proofs.Common.{List, [], ◌∷◌, refl}
-use Rattle.wrp_proof.specs.declared.record.Record.{Record}
-use Rattle.wrp_proof.specs.declared.record.Record.TheVariants.{Tour, Conn, Odd, Round, Kc, Bound, Apart, Point, Blind, Split, Labels}
-use Rattle.wrp_proof.specs.declared.rule.Rule.TheVariants as rules
+use Rattle.wrp_rules.specs.declared.record.Record.{Record}
+use Rattle.wrp_rules.specs.declared.record.Record.TheVariants.{Tour, Conn, Odd, Round, Kc, Bound, Apart, Point, Blind, Split, Labels}
+use Rattle.wrp_rules.specs.declared.rule.Rule.TheVariants as rules
 use Rattle.wrp_laws.proofs.WorkedTowns.{IsRefused, forth, back, windy_street, one_way_street, two_parts, chained_parts}
 use Rattle.wrp_laws.proofs.WorkedLists.{there_and_back, parts_tour, chain_tour}
 

@@ -9,12 +9,12 @@ use Rattle.wrp_town.specs.declared.street.Street.{Street}
 use Rattle.wrp_town.specs.declared.street.Step.{Step}
 use Rattle.wrp_town.specs.declared.town.Town.{Town}
 use Rattle.wrp_town.specs.Streets.{IsTown}
-use Rattle.wrp_proof.specs.declared.record.Record.{Record}
-use Rattle.wrp_proof.specs.declared.record.End.{End}
-use Rattle.wrp_proof.specs.declared.rule.Rule.{Rule}
-use Rattle.wrp_proof.specs.Nodes.{standing}
-use Rattle.wrp_proof.specs.Lists.{is_valid, agrees}
-use Rattle.wrp_proof.specs.Rules.{broken_rule}
+use Rattle.wrp_rules.specs.declared.record.Record.{Record}
+use Rattle.wrp_rules.specs.declared.record.End.{End}
+use Rattle.wrp_rules.specs.declared.rule.Rule.{Rule}
+use Rattle.wrp_rules.specs.Nodes.{standing}
+use Rattle.wrp_rules.specs.Lists.{is_valid, agrees}
+use Rattle.wrp_rules.specs.Rules.{broken_rule}
 
 -- the list is valid and the end agrees with it
 abbrev pub IsAccepted : Town → List Record → End → Type 0

@@ -5,7 +5,7 @@ use Rattle.wrp_town.specs.declared.street.Step.{Step}
 use Rattle.wrp_town.specs.declared.town.Town.{Town}
 use Rattle.wrp_town.specs.Arcs.{legal_arcs}
 use Rattle.wrp_town.specs.Walks.{count_of}
-use Rattle.wrp_proof.specs.Rows.{Row}
+use Rattle.wrp_rules.specs.Rows.{Row}
 
 -- the sum of a number for each legal arc, as often as the steps use it
 abbrev pub sum_of_uses : Town → List Step → (ℕ → ℤ) → ℤ

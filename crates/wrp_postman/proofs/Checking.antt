@@ -9,8 +9,8 @@ use Rattle.wrp_town.specs.declared.street.Street.{Street}
 use Rattle.wrp_town.specs.Streets.{IsTown}
 use Rattle.wrp_street.specs.declared.table.TableFault.{TableFault}
 use Rattle.wrp_street.specs.Tables.{Table, table_of, table_in, IsTable}
-use Rattle.wrp_proof.specs.declared.record.End.{End}
-use Rattle.wrp_proof.specs.Proofs.{IsProof}
+use Rattle.wrp_rules.specs.declared.record.End.{End}
+use Rattle.wrp_rules.specs.Proofs.{IsProof}
 use Rattle.wrp_laws.specs.Ends.{EndHolds}
 use Rattle.wrp_check.specs.Verdicts.{verdict}
 use Rattle.wrp_postman.specs.declared.status.Status.{Status}

@@ -5,7 +5,7 @@ use Rattle.wrp_out.specs.Told.{Gained, GainedPrefix}
 use Rattle.wrp_town.specs.declared.town.Town.{Town}
 use Rattle.wrp_street.specs.declared.table.TableFault.{TableFault}
 use Rattle.wrp_street.specs.Tables.{Table, table_of, table_in}
-use Rattle.wrp_proof.specs.declared.record.End.{End}
+use Rattle.wrp_rules.specs.declared.record.End.{End}
 use Rattle.wrp_check.specs.Verdicts.{Verdict, verdict}
 use Rattle.wrp_check.specs.Verdicts as verdicts
 use Rattle.wrp_postman.specs.declared.status.Status.{Status}

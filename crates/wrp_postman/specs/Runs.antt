@@ -5,8 +5,8 @@ use Rattle.wrp_out.specs.Told.{Gained, GainedPrefix}
 use Rattle.wrp_town.specs.declared.town.Town.{Town}
 use Rattle.wrp_street.specs.declared.table.TableFault.{TableFault}
 use Rattle.wrp_street.specs.Tables.{Table, table_of, table_in, IsTable}
-use Rattle.wrp_proof.specs.declared.record.End.{End}
-use Rattle.wrp_proof.specs.Proofs.{IsProof}
+use Rattle.wrp_rules.specs.declared.record.End.{End}
+use Rattle.wrp_rules.specs.Proofs.{IsProof}
 use Rattle.wrp_laws.specs.Ends.{EndHolds}
 use Rattle.wrp_check.specs.Verdicts.{Verdict, verdict}
 use Rattle.wrp_check.specs.Verdicts as verdicts

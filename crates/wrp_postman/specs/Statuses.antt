@@ -3,10 +3,10 @@ use Rattle.std.specs.Prelude.{ℕ, codes, List, [], ◌∷◌, ◌++◌}
 use Rattle.std.specs.Fmt.{decimal}
 use Rattle.wrp_street.specs.declared.table.TableFault.{TableFault}
 use Rattle.wrp_street.specs.declared.table.TableFault.TheVariants as faults
-use Rattle.wrp_proof.specs.declared.rule.Rule.{Rule}
-use Rattle.wrp_proof.specs.declared.rule.Rule.TheVariants as rules
-use Rattle.wrp_proof.specs.Lines.{end_text}
-use Rattle.wrp_proof.specs.declared.record.End.{End}
+use Rattle.wrp_rules.specs.declared.rule.Rule.{Rule}
+use Rattle.wrp_rules.specs.declared.rule.Rule.TheVariants as rules
+use Rattle.wrp_rules.specs.Lines.{end_text}
+use Rattle.wrp_rules.specs.declared.record.End.{End}
 use Rattle.wrp_postman.specs.declared.text.TheConstants.{USAGE}
 use Rattle.wrp_postman.specs.declared.status.LogCause.{LogCause}
 use Rattle.wrp_postman.specs.declared.status.LogCause.TheVariants as causes

@@ -3,8 +3,8 @@ ghost use Rattle.std.specs.Prelude.{◌≡◌, ◌≢◌, ◌+◌, ◌≤◌, �
 ghost use Rattle.std.specs.String.{string_bytes};
 ghost use Rattle.wrp_out.specs.Counts.{NeverFalls, Rose};
 ghost use Rattle.wrp_out.specs.Told.{Gained, GainedPrefix};
-ghost use Rattle.wrp_proof.specs.declared.record.End.{End};
-ghost use Rattle.wrp_proof.specs.Proofs.{IsProof};
+ghost use Rattle.wrp_rules.specs.declared.record.End.{End};
+ghost use Rattle.wrp_rules.specs.Proofs.{IsProof};
 ghost use Rattle.wrp_laws.specs.Ends.{EndHolds};
 ghost use Rattle.wrp_check.specs.Streams.{TookAtMost, most_bytes};
 ghost use Rattle.wrp_check.specs.Verdicts.{verdict};

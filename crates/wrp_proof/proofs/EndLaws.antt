@@ -5,15 +5,15 @@ use Rattle.std.proofs.lemmas.Slice.Eq.{bytes_eq-Decides}
 use Rattle.std.specs.Fmt.{decimal}
 use Rattle.std.specs.List.{list_all, slice_split}
 use Rattle.std.specs.Str.{bytes_eq}
-use Rattle.wrp_proof.specs.declared.record.End.{End}
-use Rattle.wrp_proof.specs.declared.record.End.TheVariants.{Optimal, Infeasible, Unfinished}
-use Rattle.wrp_proof.specs.Lines.{end_line}
-use Rattle.wrp_proof.specs.Parts.{is_space, parts_of, is_number, number_of, is_count_part}
-use Rattle.wrp_proof.specs.Rules.{is_count}
+use Rattle.wrp_rules.specs.declared.record.End.{End}
+use Rattle.wrp_rules.specs.declared.record.End.TheVariants.{Optimal, Infeasible, Unfinished}
+use Rattle.wrp_rules.specs.Lines.{end_line}
+use Rattle.wrp_lines.specs.Parts.{is_space, parts_of, is_number, number_of, is_count_part}
+use Rattle.wrp_rules.specs.Rules.{is_count}
 use Rattle.wrp_proof.specs.Ends.{has_end_numbers, IsEndLineOf, optimal_in, infeasible_in, unfinished_in, end_of_word, end_of_parts, end_in}
-use Rattle.wrp_proof.proofs.Written.{number-text, text-number}
-use Rattle.wrp_proof.proofs.WrittenPairs.{number_digits}
-use Rattle.wrp_proof.proofs.Spacing.{is_solid, spread, digits-solid, spread-split, parts_of-spread}
+use Rattle.wrp_lines.proofs.Written.{number-text, text-number}
+use Rattle.wrp_lines.proofs.WrittenPairs.{number_digits}
+use Rattle.wrp_lines.proofs.Spacing.{is_solid, spread, digits-solid, spread-split, parts_of-spread}
 
 -- the parts of the line of an end, behind `end`
 abbrev pub end_parts : End → List (List ℕ)

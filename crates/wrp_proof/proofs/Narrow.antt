@@ -2,9 +2,9 @@
 use Rattle.std.proofs.Common.{arith, ◌≡◌, ℕ, ◌-◌, ◌<◌, ◌^◌, true, ◌&&◌, nat_lt, nat_le, List, [], ◌∷◌, map, length, refl}
 use Rattle.std.proofs.lemmas.Bool.{and_parts, and_from, leb-true, lt-ltb}
 use Rattle.std.specs.List.{list_all}
-use Rattle.wrp_proof.specs.declared.record.Record.{Record}
-use Rattle.wrp_proof.specs.declared.record.Record.TheVariants.{Tour, Conn, Odd, Round, Kc, Bound, Empty, Apart, Point, Blind, Split, Labels}
-use Rattle.wrp_proof.specs.Rules.{is_count, is_from_one, is_ascending, are_pairs, are_multipliers, has_number_rules}
+use Rattle.wrp_rules.specs.declared.record.Record.{Record}
+use Rattle.wrp_rules.specs.declared.record.Record.TheVariants.{Tour, Conn, Odd, Round, Kc, Bound, Empty, Apart, Point, Blind, Split, Labels}
+use Rattle.wrp_rules.specs.Rules.{is_count, is_from_one, is_ascending, are_pairs, are_multipliers, has_number_rules}
 use Rattle.wrp_proof.specs.Views.{are_narrow, has_narrow_multipliers}
 
 below : (most : ℕ) (pairs : List (ℕ × ℕ)) → most < 2 ^ 64 → list_all (λ q. is_from_one most q.1) pairs ≡ true → are_narrow pairs ≡ true

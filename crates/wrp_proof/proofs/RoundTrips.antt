@@ -1,8 +1,8 @@
 -- What is written is read back.
 use Rattle.std.proofs.Common.{◌≡◌, Some, true, refl}
-use Rattle.wrp_proof.specs.declared.record.Record.{Record}
-use Rattle.wrp_proof.specs.Lines.{line_of}
-use Rattle.wrp_proof.specs.Rules.{has_number_rules}
+use Rattle.wrp_rules.specs.declared.record.Record.{Record}
+use Rattle.wrp_rules.specs.Lines.{line_of}
+use Rattle.wrp_rules.specs.Rules.{has_number_rules}
 use Rattle.wrp_proof.specs.Views.{spelled}
 use Rattle.wrp_proof.proofs.LineLaws.{line-spelled}
 

@@ -2,15 +2,15 @@
 use Rattle.std.proofs.Common.{◌≡◌, ℕ, Bool, true, false, ◌&&◌, int_lt, List, [], ◌∷◌, ◌++◌, Some, None, refl, sym, ap, ◌∙◌}
 use Rattle.std.proofs.lemmas.Bool.{false≢true}
 use Rattle.wrp_town.specs.declared.town.Town.{Town}
-use Rattle.wrp_proof.specs.declared.record.Record.{Record}
-use Rattle.wrp_proof.specs.declared.record.Record.TheVariants.{Tour, Conn, Odd, Round, Kc, Bound, Empty, Apart, Point, Blind, Split, Labels}
-use Rattle.wrp_proof.specs.declared.record.End.{End}
-use Rattle.wrp_proof.specs.declared.rule.Rule.{Rule}
-use Rattle.wrp_proof.specs.declared.rule.Rule.TheVariants as rules
-use Rattle.wrp_proof.specs.Nodes.{Standing, node_at, bound_value}
-use Rattle.wrp_proof.specs.Lines.{line_of}
-use Rattle.wrp_proof.specs.Rules.{has_number_rules, is_alone, node_is_there, rows_are_there, node_is_open, first_broken, rules_of, broken_rule}
-use Rattle.wrp_proof.specs.Judged.{has_plain_costs, is_judged, judged_rule}
+use Rattle.wrp_rules.specs.declared.record.Record.{Record}
+use Rattle.wrp_rules.specs.declared.record.Record.TheVariants.{Tour, Conn, Odd, Round, Kc, Bound, Empty, Apart, Point, Blind, Split, Labels}
+use Rattle.wrp_rules.specs.declared.record.End.{End}
+use Rattle.wrp_rules.specs.declared.rule.Rule.{Rule}
+use Rattle.wrp_rules.specs.declared.rule.Rule.TheVariants as rules
+use Rattle.wrp_rules.specs.Nodes.{Standing, node_at, bound_value}
+use Rattle.wrp_rules.specs.Lines.{line_of}
+use Rattle.wrp_rules.specs.Rules.{has_number_rules, is_alone, node_is_there, rows_are_there, node_is_open, first_broken, rules_of, broken_rule}
+use Rattle.wrp_rules.specs.Judged.{has_plain_costs, is_judged, judged_rule}
 use Rattle.wrp_proof.specs.Views.{is_later, spelled, IsLineOf}
 use Rattle.wrp_proof.specs.Ends.{IsEndLineOf, spelled_end}
 use Rattle.wrp_proof.proofs.LineLaws.{spelled-line}

@@ -2,15 +2,15 @@
 use Rattle.std.specs.Prelude.{codes, ◌≡◌, ℕ, ◌^◌, ◌<◌, ◌≤◌, Bool, true, false, ◌&&◌, ◌||◌, if◌then◌else◌, nat_eq, List, [], ◌∷◌, length, Option, None, Some}
 use Rattle.std.specs.List.{slice_split, starts_with}
 use Rattle.std.specs.Str.{bytes_eq}
-use Rattle.wrp_proof.specs.declared.record.End.{End}
-use Rattle.wrp_proof.specs.declared.record.End.TheVariants.{Optimal, Infeasible, Unfinished}
+use Rattle.wrp_rules.specs.declared.record.End.{End}
+use Rattle.wrp_rules.specs.declared.record.End.TheVariants.{Optimal, Infeasible, Unfinished}
 use Rattle.wrp_proof.specs.declared.fault.LineFault.{LineFault}
 use Rattle.wrp_proof.specs.declared.fault.LineFault.TheVariants as faults
 use Rattle.wrp_proof.specs.EndFaults.{IsFirstBadCost}
-use Rattle.wrp_proof.specs.Fronts.{IsLongestFront}
-use Rattle.wrp_proof.specs.Lines.{end_line}
-use Rattle.wrp_proof.specs.Parts.{is_space, is_digits, number_of, is_count_part}
-use Rattle.wrp_proof.specs.Rules.{is_count}
+use Rattle.wrp_lines.specs.Fronts.{IsLongestFront}
+use Rattle.wrp_rules.specs.Lines.{end_line}
+use Rattle.wrp_lines.specs.Parts.{is_space, is_digits, number_of, is_count_part}
+use Rattle.wrp_rules.specs.Rules.{is_count}
 
 -- the numbers of an end are below 2 ^ 63
 abbrev pub has_end_numbers : End → Bool

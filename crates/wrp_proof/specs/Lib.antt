@@ -1,17 +1,4 @@
-pub mod Sets
-pub mod Rows
-pub mod Nodes
-pub mod Rules
-pub mod Lists
-pub mod Lines
 pub mod Limits
-pub mod Proofs
-pub mod Judged
-pub mod Parts
-pub mod Numbers
-pub mod Shapes
-pub mod Fronts
-pub mod Spelling
 pub mod Views
 pub mod EndFaults
 pub mod Ends

@@ -1,8 +1,8 @@
 -- The records that may stand in a proof.
 use Rattle.std.specs.Prelude.{◌^◌, Bool, ◌&&◌, nat_le, length}
-use Rattle.wrp_proof.specs.declared.record.Record.{Record}
-use Rattle.wrp_proof.specs.Lines.{line_of}
-use Rattle.wrp_proof.specs.Rules.{has_number_rules}
+use Rattle.wrp_rules.specs.declared.record.Record.{Record}
+use Rattle.wrp_rules.specs.Lines.{line_of}
+use Rattle.wrp_rules.specs.Rules.{has_number_rules}
 
 -- the record keeps the number rules, and its line has at most 2^28 bytes
 abbrev pub is_writable : Record → Bool

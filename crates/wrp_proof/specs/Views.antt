@@ -1,21 +1,21 @@
 -- What a view of a line stands for, and which lines have one.
 use Rattle.std.specs.Prelude.{◌≡◌, ⊤, ℕ, ◌^◌, ◌≤◌, ◌<◌, Bool, true, false, ◌&&◌, nat_lt, ◌==◌, if◌then◌else◌, List, [], ◌∷◌, length, codes, Option, None}
 use Rattle.std.specs.List.{list_any, list_all}
-use Rattle.wrp_proof.specs.declared.record.Record.{Record}
-use Rattle.wrp_proof.specs.declared.record.Record.TheVariants.{Tour, Conn, Odd, Round, Kc, Bound, Empty, Apart, Point, Blind, Split, Labels}
+use Rattle.wrp_rules.specs.declared.record.Record.{Record}
+use Rattle.wrp_rules.specs.declared.record.Record.TheVariants.{Tour, Conn, Odd, Round, Kc, Bound, Empty, Apart, Point, Blind, Split, Labels}
 use Rattle.wrp_proof.specs.declared.views.View.{View}
 use Rattle.wrp_proof.specs.declared.views.View.TheVariants as views
 use Rattle.wrp_proof.specs.declared.views.ViewFault.{ViewFault}
 use Rattle.wrp_proof.specs.declared.views.ViewFault.TheVariants as faults
 use Rattle.wrp_proof.specs.declared.fault.LineFault.{LineFault}
 use Rattle.wrp_proof.specs.declared.fault.LineFault.TheVariants as line_faults
-use Rattle.wrp_proof.specs.Lines.{line_of}
-use Rattle.wrp_proof.specs.Rules.{has_number_rules}
-use Rattle.wrp_proof.specs.Parts.{is_spaced, parts_of}
-use Rattle.wrp_proof.specs.Shapes.{has_parts_shape}
-use Rattle.wrp_proof.specs.Fronts.{IsLongestFront}
-use Rattle.wrp_proof.specs.Numbers.{IsFirstBadNumber}
-use Rattle.wrp_proof.specs.Spelling.{record_in}
+use Rattle.wrp_rules.specs.Lines.{line_of}
+use Rattle.wrp_rules.specs.Rules.{has_number_rules}
+use Rattle.wrp_lines.specs.Parts.{is_spaced, parts_of}
+use Rattle.wrp_lines.specs.Shapes.{has_shape}
+use Rattle.wrp_lines.specs.Fronts.{IsLongestFront}
+use Rattle.wrp_lines.specs.Numbers.{IsFirstBadNumber}
+use Rattle.wrp_lines.specs.Spelling.{record_in}
 
 -- the record with the fields and the lists of a view
 abbrev pub record_of : View → Record
@@ -62,15 +62,6 @@ goes_on letter (byte ∷ rest) = byte == 32
 abbrev pub is_later : List ℕ → Bool
 is_later [] = false
 is_later (letter ∷ rest) = is_later_letter letter && goes_on letter rest
-
--- lines of records begin with the letter
-abbrev pub is_letter : ℕ → Bool
-is_letter letter = list_any (λ byte. letter == byte) (codes "tcorkbeapzsn")
-
--- a line in the shape of its letter
-abbrev pub has_shape : List ℕ → Bool
-has_shape [] = false
-has_shape (letter ∷ rest) = is_spaced rest && has_parts_shape letter (parts_of rest)
 
 -- the record that a line spells
 unfoldable pub spelled : List ℕ → Option Record

@@ -1,9 +1,9 @@
 //! The length of the line of a record, which is not written for it. Nothing here takes memory.
 ghost use Rattle.std.specs.Prelude.{◌≡◌, ◌<◌, ◌≤◌, ◌^◌, [], map, length};
 ghost use Rattle.std.specs.Fmt.{decimal};
-ghost use Rattle.wrp_proof.specs.Lines.{line_of, step_text, pair_text, spaced};
+ghost use Rattle.wrp_rules.specs.Lines.{line_of, step_text, pair_text, spaced};
 
-use crate::record::Record;
+use wrp_rules::Record;
 use wrp_town::Step;
 
 /// The number of bytes in the line of a record, without a line feed.

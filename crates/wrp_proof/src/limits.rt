@@ -2,10 +2,10 @@
 ghost use Rattle.std.specs.Prelude.{◌≡◌, ◌-◌, ◌^◌, map};
 ghost use Rattle.std.specs.List.{list_all};
 ghost use Rattle.wrp_proof.specs.Limits.{is_writable};
-ghost use Rattle.wrp_proof.specs.Rules.{is_index as index_rule, is_count as count_rule, is_from_one as from_one_rule, is_set as set_rule, is_ascending, are_pairs as pairs_rule, are_multipliers as multipliers_rule, has_number_rules};
+ghost use Rattle.wrp_rules.specs.Rules.{is_index as index_rule, is_count as count_rule, is_from_one as from_one_rule, is_set as set_rule, is_ascending, are_pairs as pairs_rule, are_multipliers as multipliers_rule, has_number_rules};
 
 use crate::lengths::line_len;
-use crate::record::Record;
+use wrp_rules::Record;
 use wrp_town::Step;
 
 /// The most bytes of a record's line.

@@ -1,16 +1,15 @@
 //! Records with lists of their own, made from views.
 ghost use Rattle.std.specs.Prelude.{◌≡◌, ◌^◌, ◌≤◌, true, Some, length, IfOk, IfErr};
-ghost use Rattle.wrp_proof.specs.declared.record.Record.{Record};
+ghost use Rattle.wrp_rules.specs.declared.record.Record.{Record};
 ghost use Rattle.wrp_proof.specs.declared.fault.LineFault.TheVariants as faults;
 ghost use Rattle.wrp_proof.specs.Views.{record_of, are_narrow, has_narrow_multipliers, spelled as record_spelled, IsLineOf, IsLineFaultOf, IsWithoutRecord};
 
 use crate::fault::LineFault;
-use crate::numbers::NumbersOf;
-use crate::parts::{PairsOf, StepsOf};
 use crate::reading::view;
-use crate::record::Record;
 use crate::views::{View, ViewFault};
 use std::alloc::{AllocError, Global};
+use wrp_lines::{NumbersOf, PairsOf, StepsOf};
+use wrp_rules::Record;
 use wrp_town::{List, Step};
 
 /// The record with the fields and the lists of a view.

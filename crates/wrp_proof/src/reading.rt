@@ -1,20 +1,19 @@
 //! Reads the lines of records. This takes no memory.
 ghost use Rattle.std.specs.Prelude.{◌≡◌, ◌∷◌, ℕ, ◌^◌, ◌≤◌, List, Some, None, true, false, length, IfOk, IfErr};
 ghost use Rattle.std.specs.Option.{option_map};
-ghost use Rattle.wrp_proof.specs.declared.record.Record.{Record};
+ghost use Rattle.wrp_rules.specs.declared.record.Record.{Record};
 ghost use Rattle.wrp_proof.specs.declared.views.ViewFault.{ViewFault};
-ghost use Rattle.wrp_proof.specs.Parts.{is_spaced, parts_of};
-ghost use Rattle.wrp_proof.specs.Spelling.{record_in, tour_in, conn_in, odd_in, round_in, kc_in, bound_in, empty_in, apart_in, point_in, blind_in, split_in, labels_in};
-ghost use Rattle.wrp_proof.specs.Fronts.{IsLongestFront};
-ghost use Rattle.wrp_proof.specs.Views.{record_of, has_shape, is_letter, is_later_letter, goes_on as goes_on_behind, is_later as is_later_line, spelled as record_spelled, IsLineOf, IsFaultOf};
+ghost use Rattle.wrp_lines.specs.Parts.{is_spaced, parts_of};
+ghost use Rattle.wrp_lines.specs.Spelling.{record_in, tour_in, conn_in, odd_in, round_in, kc_in, bound_in, empty_in, apart_in, point_in, blind_in, split_in, labels_in};
+ghost use Rattle.wrp_lines.specs.Fronts.{IsLongestFront};
+ghost use Rattle.wrp_proof.specs.Views.{record_of, is_later_letter, goes_on as goes_on_behind, is_later as is_later_line, spelled as record_spelled, IsLineOf, IsFaultOf};
+ghost use Rattle.wrp_lines.specs.Shapes.{has_shape, is_letter};
 
-use crate::labels::label_halves;
-use crate::numbers::NumbersOf;
-use crate::parts::{PairsOf, StepsOf};
-use crate::place::form_place;
-use crate::ranges::number_place;
-use crate::text::{goes_on_with_space, read_count, read_from_one, read_index, split_part};
 use crate::views::{View, ViewFault};
+use wrp_lines::{
+    NumbersOf, PairsOf, StepsOf, form_place, goes_on_with_space, label_halves, number_place,
+    read_count, read_from_one, read_index, split_part,
+};
 
 /// A line of a proof has at most as many bytes.
 const MOST_BYTES: usize = 1 << 28;

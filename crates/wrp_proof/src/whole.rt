@@ -1,10 +1,10 @@
 //! Writes whole proofs.
 ghost use Rattle.std.specs.Prelude.{◌≡◌, ◌++◌, IfOk};
-ghost use Rattle.wrp_proof.specs.Proofs.{record_lines, version_2, proof_text as text_of_proof};
+ghost use Rattle.wrp_rules.specs.Proofs.{record_lines, version_2, proof_text as text_of_proof};
 
-use crate::record::{End, Record};
 use crate::writing::{write_end, write_record};
 use std::alloc::{AllocError, Global};
+use wrp_rules::{End, Record};
 
 /// The text of a proof: the line of version 2, the lines of the records and the line of the end, each
 /// followed by a line feed.

@@ -1,11 +1,11 @@
 //! Writes the lines of records and of ends.
 ghost use Rattle.std.specs.Prelude.{◌≡◌, map, IfOk, if◌then◌else◌};
 ghost use Rattle.std.specs.Fmt.{decimal};
-ghost use Rattle.wrp_proof.specs.declared.record.Record.TheVariants.{Labels};
-ghost use Rattle.wrp_proof.specs.Lines.{line_of, end_line as line_of_end, step_text, pair_text, spaced};
+ghost use Rattle.wrp_rules.specs.declared.record.Record.TheVariants.{Labels};
+ghost use Rattle.wrp_rules.specs.Lines.{line_of, end_line as line_of_end, step_text, pair_text, spaced};
 
-use crate::record::{End, Record};
 use std::alloc::{AllocError, Global};
+use wrp_rules::{End, Record};
 use wrp_town::{List, Step};
 
 /// The line of a record, without a line feed.

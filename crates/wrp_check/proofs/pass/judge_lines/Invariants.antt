@@ -1,6 +1,6 @@
 use Rattle.std.proofs.Common.{◌+◌, ◌-◌, ◌≤◌}
 use Rattle.wrp_out.specs.Counts.{NeverFalls}
-use Rattle.wrp_proof.specs.Nodes.{Standing}
+use Rattle.wrp_rules.specs.Nodes.{Standing}
 use Rattle.wrp_check.specs.Streams.{Draws, left_in, most_bytes}
 use Rattle.wrp_check.specs.Judging.{IsReady, Stands}
 use Rattle.wrp_check.specs.Passes.{Reaches}

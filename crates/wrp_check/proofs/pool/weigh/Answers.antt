@@ -2,7 +2,7 @@ use Rattle.std.proofs.Common.{◌≡◌, ℕ, ◌^◌, true, ◌+ℤ◌, List, l
 use Rattle.std.specs.List.{list_all}
 use Rattle.std.specs.Int.{w128}
 use Rattle.wrp_sums.proofs.Integers.{linear, casts}
-use Rattle.wrp_proof.specs.Rules.{is_from_one}
+use Rattle.wrp_rules.specs.Rules.{is_from_one}
 use Rattle.wrp_check.specs.Pools.{has_rows, weighted_coef, weighted_side}
 use Rattle.wrp_check.proofs.Weights.{first_multiplier, rows_go_on}
 use Rattle.wrp_check.proofs.pool.weigh.Goals as goal

@@ -1,6 +1,6 @@
 use Rattle.std.proofs.Common.{◌≡◌, ℕ, ◌+◌, ◌*◌, ◌^◌, ◌<◌, ◌≤◌, true, pos, ◌+ℤ◌, unsigned_abs, length, get_or}
 use Rattle.std.specs.List.{list_all}
-use Rattle.wrp_proof.specs.Rules.{is_from_one}
+use Rattle.wrp_rules.specs.Rules.{is_from_one}
 use Rattle.wrp_check.specs.Pools.{has_rows, weighted_coef, weighted_side}
 use Rattle.wrp_check.proofs.pool.weigh.Given as goal
 

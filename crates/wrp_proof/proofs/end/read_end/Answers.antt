@@ -1,5 +1,5 @@
 use Rattle.std.proofs.Common.{◌≡◌, Some, None, sym, ◌∙◌}
-use Rattle.wrp_proof.specs.declared.record.End.{End}
+use Rattle.wrp_rules.specs.declared.record.End.{End}
 use Rattle.wrp_proof.proofs.EndLaws.{found-line, line-found}
 use Rattle.wrp_proof.proofs.OneFault.{one-end_fault}
 use Rattle.wrp_proof.proofs.end.read_end.Goals as goal

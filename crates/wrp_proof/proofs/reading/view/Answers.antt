@@ -1,5 +1,5 @@
 use Rattle.std.proofs.Common.{◌≡◌, Some, None, sym, ◌∙◌}
-use Rattle.wrp_proof.specs.declared.record.Record.{Record}
+use Rattle.wrp_rules.specs.declared.record.Record.{Record}
 use Rattle.wrp_proof.specs.Views.{record_of}
 use Rattle.wrp_proof.proofs.LineLaws.{spelled-line, line-spelled}
 use Rattle.wrp_proof.proofs.OneFault.{one-fault}

@@ -1,5 +1,5 @@
 use Rattle.std.proofs.Common.{◌≡◌, ◌++◌, drop}
-use Rattle.wrp_proof.specs.Proofs.{record_lines}
+use Rattle.wrp_rules.specs.Proofs.{record_lines}
 use Rattle.wrp_proof.proofs.whole.with_records.Given as goal
 
 abbrev pub invariant-loop-item : goal.invariant-loop-item

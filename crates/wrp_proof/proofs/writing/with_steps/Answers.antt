@@ -1,8 +1,8 @@
 use Rattle.std.proofs.Common.{rules, ◌≡◌, ◌<◌, ◌++◌, ◌∷◌, [], ◌∙◌, length, get_or, false, if◌then◌else◌, append_assoc}
 use Rattle.std.specs.Fmt.{decimal}
 use Rattle.wrp_town.specs.declared.street.Step.{Step}
-use Rattle.wrp_proof.specs.Lines.{step_text}
-use Rattle.wrp_proof.proofs.Spread.{one-written}
+use Rattle.wrp_rules.specs.Lines.{step_text}
+use Rattle.wrp_lines.proofs.Spread.{one-written}
 use Rattle.wrp_proof.proofs.writing.with_steps.Goals as goal
 
 pub loop-step-preserved : goal.loop-step-preserved

@@ -1,4 +1,4 @@
-use Rattle.wrp_proof.specs.Rows.{base_rows}
+use Rattle.wrp_rules.specs.Rows.{base_rows}
 use Rattle.wrp_check.proofs.Weights.{small_rows}
 use Rattle.wrp_check.proofs.bound.tests.a_street_is_driven_once.Goals as goal
 

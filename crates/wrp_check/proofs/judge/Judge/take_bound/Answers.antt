@@ -2,8 +2,8 @@ use Rattle.std.proofs.Common.{◌≡◌, ℕ, refl, sym, FitsSigned, rules, arit
 use Rattle.std.proofs.Math.Facts.{to_z-of_z}
 use Rattle.std.proofs.lemmas.Grind.{common_steps}
 use Rattle.std.specs.Int.{w128}
-use Rattle.wrp_proof.specs.Rows.{base_rows}
-use Rattle.wrp_proof.specs.Nodes.{root, with_bound}
+use Rattle.wrp_rules.specs.Rows.{base_rows}
+use Rattle.wrp_rules.specs.Nodes.{root, with_bound}
 use Rattle.wrp_check.proofs.Weights.{small_rows}
 use Rattle.wrp_check.proofs.Bounding.{bound_refused, bound_taken}
 use Rattle.wrp_check.proofs.judge.Judge.take_bound.Goals as goal

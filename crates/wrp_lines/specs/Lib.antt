@@ -1,0 +1,5 @@
+pub mod Parts
+pub mod Numbers
+pub mod Shapes
+pub mod Fronts
+pub mod Spelling

@@ -1,0 +1,232 @@
+-- The rules that a record keeps after a list of records, each record's in their order.
+use Rattle.std.specs.Prelude.{ℕ, ◌-◌, ◌*◌, ◌%◌, ◌^◌, Bool, true, false, cond, ◌&&◌, ◌||◌, not, if◌then◌else◌, ◌==◌, nat_lt, nat_le, ℤ, pos, int_lt, int_le, List, [], ◌∷◌, map, length, slice_index, slice_get, Option, None, Some}
+use Rattle.std.specs.Option.{option_map_or}
+use Rattle.std.specs.List.{filter, list_any, list_all, sum_by, count_by, last_or}
+use Rattle.wrp_sums.specs.Rounding.{ceil_div}
+use Rattle.wrp_town.specs.declared.town.Town.{Town}
+use Rattle.wrp_town.specs.Streets.{demands_at}
+use Rattle.wrp_town.specs.Arcs.{is_legal, tail_of, head_of, legal_arcs, junctions, demands, cost_or_zero}
+use Rattle.wrp_town.specs.Walks.{is_closed_walk, serves_all, walk_cost}
+use Rattle.wrp_rules.specs.declared.record.Record.{Record}
+use Rattle.wrp_rules.specs.declared.record.Record.TheVariants.{Tour, Conn, Odd, Round, Kc, Bound, Empty, Apart, Point, Blind, Split, Labels}
+use Rattle.wrp_rules.specs.declared.rule.Rule.{Rule}
+use Rattle.wrp_rules.specs.declared.rule.Rule.TheVariants as rules
+use Rattle.wrp_rules.specs.Sets.{leaves, crossing_demands, is_parted}
+use Rattle.wrp_rules.specs.Rows.{is_chain, is_wide, round_row}
+use Rattle.wrp_rules.specs.Nodes.{Node, Standing, node_at, bound_value, empty_value, is_open, is_below}
+
+-- numbers of a strictly ascending list, each at most that
+abbrev pub is_ascending : ℕ → List ℕ → Bool
+is_ascending most [] = true
+is_ascending most (x ∷ xs) = nat_le x most && list_all (nat_lt x) xs && is_ascending most xs
+
+-- a street, junction, row, arc, label or set number
+abbrev pub is_index : ℕ → Bool
+is_index n = nat_lt n (2 ^ 32)
+
+-- a cost or the number of a node
+abbrev pub is_count : ℕ → Bool
+is_count n = nat_lt n (2 ^ 63)
+
+-- from 1 on
+abbrev pub is_from_one : ℕ → ℕ → Bool
+is_from_one most n = nat_le 1 n && nat_le n most
+
+-- a set of junctions
+abbrev pub is_set : List ℕ → Bool
+is_set set = is_ascending (2 ^ 32 - 1) set
+
+-- pairs of ascending first numbers, the second numbers from 1 on
+abbrev pub are_pairs : ℕ → List (ℕ × ℕ) → Bool
+are_pairs most pairs = is_ascending (2 ^ 32 - 1) (map (λ q. q.0) pairs) && list_all (λ q. is_from_one most q.1) pairs
+
+-- at most 4,096 multipliers of rows
+abbrev pub are_multipliers : ℕ → List (ℕ × ℕ) → Bool
+are_multipliers most pairs = are_pairs most pairs && nat_le (length pairs) 4096
+
+-- the numbers of a record are in their ranges and orders
+abbrev pub has_number_rules : Record → Bool
+has_number_rules (Tour cost steps) = is_count cost && list_all (λ step. is_index step.street) steps
+has_number_rules (Conn r1 r2 set) = is_index r1 && is_index r2 && is_set set
+has_number_rules (Odd set) = is_set set
+has_number_rules (Round divisor mult) = is_from_one (2 ^ 20) divisor && are_multipliers (2 ^ 40) mult
+has_number_rules (Kc k of) = is_index k && list_all is_index of
+has_number_rules (Bound node den mult) = is_count node && is_from_one (2 ^ 40) den && are_multipliers (2 ^ 60) mult
+has_number_rules (Empty node mult) = is_count node && are_multipliers (2 ^ 60) mult
+has_number_rules (Apart node r1 r2 set) = is_count node && is_index r1 && is_index r2 && is_set set
+has_number_rules (Point node den numbers) = is_count node && is_from_one (2 ^ 60) den && are_pairs (2 ^ 72) numbers
+has_number_rules (Blind node) = is_count node
+has_number_rules (Split node arc k) = is_count node && is_index arc && is_index k
+has_number_rules (Labels labels streets) = list_all is_index labels && list_all is_index streets
+
+abbrev pub is_labels : Record → Bool
+is_labels (Tour cost steps) = false
+is_labels (Conn r1 r2 set) = false
+is_labels (Odd set) = false
+is_labels (Round divisor mult) = false
+is_labels (Kc k of) = false
+is_labels (Bound node den mult) = false
+is_labels (Empty node mult) = false
+is_labels (Apart node r1 r2 set) = false
+is_labels (Point node den numbers) = false
+is_labels (Blind node) = false
+is_labels (Split node arc k) = false
+is_labels (Labels labels streets) = true
+
+-- the record adds a row
+abbrev pub is_cut : Record → Bool
+is_cut (Tour cost steps) = false
+is_cut (Conn r1 r2 set) = true
+is_cut (Odd set) = true
+is_cut (Round divisor mult) = true
+is_cut (Kc k of) = true
+is_cut (Bound node den mult) = false
+is_cut (Empty node mult) = false
+is_cut (Apart node r1 r2 set) = false
+is_cut (Point node den numbers) = false
+is_cut (Blind node) = false
+is_cut (Split node arc k) = false
+is_cut (Labels labels streets) = false
+
+-- a Point or Blind of this node
+abbrev pub leads_to_split : ℕ → Record → Bool
+leads_to_split split (Tour cost steps) = false
+leads_to_split split (Conn r1 r2 set) = false
+leads_to_split split (Odd set) = false
+leads_to_split split (Round divisor mult) = false
+leads_to_split split (Kc k of) = false
+leads_to_split split (Bound node den mult) = false
+leads_to_split split (Empty node mult) = false
+leads_to_split split (Apart node r1 r2 set) = false
+leads_to_split split (Point node den numbers) = node == split
+leads_to_split split (Blind node) = node == split
+leads_to_split split (Split node arc k) = false
+leads_to_split split (Labels labels streets) = false
+
+-- a Labels record stands alone
+abbrev pub is_alone : Standing → Record → Bool
+is_alone s item = if is_labels item then length s.records == 0 else not (list_any is_labels s.records)
+
+-- there is room for one more cut
+abbrev pub has_room : Standing → Bool
+has_room s = nat_lt (count_by is_cut s.records) 20000
+
+-- the numbers are below n
+abbrev pub all_below : ℕ → List ℕ → Bool
+all_below n xs = list_all (λ x. nat_lt x n) xs
+
+-- the pairs name rows that are there
+abbrev pub rows_are_there : Standing → List (ℕ × ℕ) → Bool
+rows_are_there s mult = list_all (λ q. nat_lt q.0 (length s.rows)) mult
+
+abbrev pub node_is_there : Standing → ℕ → Bool
+node_is_there s node = nat_lt node (length s.nodes)
+
+abbrev pub node_is_open : Town → Standing → ℕ → Bool
+node_is_open town s node = is_open s.upper (node_at town s node)
+
+-- the number of an arc in a Point, 0 where it isn't listed
+abbrev pub number_at : List (ℕ × ℕ) → ℕ → ℕ
+number_at numbers arc = sum_by (λ q. cond (q.0 == arc) q.1 0) numbers
+
+-- each number is in the node's box, times the denominator
+abbrev pub is_in_box : Town → Node → ℕ → List (ℕ × ℕ) → Bool
+is_in_box town node den numbers =
+    list_all (λ arc. nat_le (node.lo arc * den) (number_at numbers arc) && nat_le (number_at numbers arc) (node.hi arc * den)) (legal_arcs town)
+
+-- as much leaves each junction as enters it
+abbrev pub is_balanced : Town → List (ℕ × ℕ) → Bool
+is_balanced town numbers =
+    list_all (λ j. sum_by (number_at numbers) (filter (λ arc. tail_of town arc == j) (legal_arcs town))
+    == sum_by (number_at numbers) (filter (λ arc. head_of town arc == j) (legal_arcs town))) (junctions town)
+
+-- the legal arcs of each demand have at least the denominator
+abbrev pub is_served : Town → ℕ → List (ℕ × ℕ) → Bool
+is_served town den numbers = list_all (λ demand. nat_le den (sum_by (number_at numbers) (filter (is_legal town) demand))) (demands town)
+
+-- what the numbers cost over the denominator, rounded up
+abbrev pub price_of : Town → ℕ → List (ℕ × ℕ) → ℤ
+price_of town den numbers = ceil_div (pos (sum_by (λ arc. cost_or_zero town arc * number_at numbers arc) (legal_arcs town))) den
+
+abbrev pub int_eq : ℤ → ℤ → Bool
+int_eq x y = int_le x y && int_le y x
+
+-- the arc has both ends at the label
+abbrev pub keeps_label : Town → List ℕ → ℕ → ℕ → Bool
+keeps_label town labels label arc = (slice_index labels (tail_of town arc) == label) && (slice_index labels (head_of town arc) == label)
+
+-- the street has a demand none of whose legal arcs has both ends at the label
+abbrev pub breaks_label : Town → List ℕ → ℕ → ℕ → Bool
+breaks_label town labels label street =
+    option_map_or (λ s. list_any (λ demand. list_all (λ arc. not (is_legal town arc && keeps_label town labels label arc)) demand) (demands_at street s.need))
+    (slice_get town.streets street) false
+
+-- a rule and whether it is kept; the first that isn't
+abbrev pub first_broken : List (Rule × Bool) → Option Rule
+first_broken [] = None
+first_broken ((rule, is_kept) ∷ others) = if is_kept then first_broken others else Some rule
+
+-- the rules of each kind of record
+abbrev pub rules_of : Town → Standing → Record → List (Rule × Bool)
+rules_of town s (Tour cost steps) =
+    (rules.Range, list_all (λ step. nat_lt step.street (length town.streets)) steps)
+    ∷ (rules.Walk, is_closed_walk town steps)
+    ∷ (rules.Serve, serves_all town steps)
+    ∷ (rules.Cost, walk_cost town steps == cost)
+    ∷ (rules.Dear, is_below (pos cost) s.upper) ∷ []
+rules_of town s (Conn r1 r2 set) =
+    (rules.Range, all_below (length town.streets) (r1 ∷ r2 ∷ []) && all_below (length town.junctions) set)
+    ∷ (rules.Cuts, has_room s)
+    ∷ (rules.Cross, is_parted town r1 r2 set) ∷ []
+rules_of town s (Odd set) =
+    (rules.Range, all_below (length town.junctions) set)
+    ∷ (rules.Cuts, has_room s)
+    ∷ (rules.Even, not (crossing_demands town set % 2 == 0)) ∷ []
+rules_of town s (Round divisor mult) =
+    (rules.Range, rows_are_there s mult)
+    ∷ (rules.Cuts, has_room s)
+    ∷ (rules.Wide, not (is_wide town (round_row s.rows divisor mult))) ∷ []
+rules_of town s (Kc k of) =
+    (rules.Range, (length of == length town.junctions) && nat_le 3 k && list_all (λ i. nat_le i k) of)
+    ∷ (rules.Cuts, has_room s)
+    ∷ (rules.Chain, is_chain town k of) ∷ []
+rules_of town s (Bound node den mult) =
+    (rules.Range, node_is_there s node && rows_are_there s mult)
+    ∷ (rules.Closed, node_is_open town s node)
+    ∷ (rules.Low, int_lt (node_at town s node).bound (bound_value town s.rows (node_at town s node) den mult)) ∷ []
+rules_of town s (Empty node mult) =
+    (rules.Range, node_is_there s node && rows_are_there s mult)
+    ∷ (rules.Closed, node_is_open town s node)
+    ∷ (rules.Low, int_lt (pos 0) (empty_value town s.rows (node_at town s node) mult)) ∷ []
+rules_of town s (Apart node r1 r2 set) =
+    (rules.Range, node_is_there s node && all_below (length town.streets) (r1 ∷ r2 ∷ []) && all_below (length town.junctions) set)
+    ∷ (rules.Closed, node_is_open town s node)
+    ∷ (rules.Cross, is_parted town r1 r2 set)
+    ∷ (rules.Leak, list_all (λ arc. not (leaves town set arc) || ((node_at town s node).hi arc == 0)) (legal_arcs town)) ∷ []
+rules_of town s (Point node den numbers) =
+    (rules.Range, node_is_there s node && list_all (λ q. is_legal town q.0) numbers)
+    ∷ (rules.Closed, node_is_open town s node)
+    ∷ (rules.Box, is_in_box town (node_at town s node) den numbers)
+    ∷ (rules.Balance, is_balanced town numbers)
+    ∷ (rules.Service, is_served town den numbers)
+    ∷ (rules.Price, int_eq (price_of town den numbers) (node_at town s node).bound) ∷ []
+rules_of town s (Blind node) =
+    (rules.Range, node_is_there s node)
+    ∷ (rules.Closed, node_is_open town s node) ∷ []
+rules_of town s (Split node arc k) =
+    (rules.Range, node_is_there s node && is_legal town arc)
+    ∷ (rules.Closed, node_is_open town s node)
+    ∷ (rules.Alone, option_map_or (leads_to_split node) (last_or None s.records) false)
+    ∷ (rules.Part, nat_le ((node_at town s node).lo arc) k && nat_lt k ((node_at town s node).hi arc)) ∷ []
+rules_of town s (Labels labels streets) = (
+  rules.Range,
+  (length labels == length town.junctions) && nat_lt 0 (length streets)
+      && all_below (length streets) labels && all_below (length town.streets) streets,
+)
+    ∷ (rules.Rise, list_all (λ arc. nat_le (slice_index labels (head_of town arc)) (slice_index labels (tail_of town arc))) (legal_arcs town))
+    ∷ (rules.Label, list_all (λ label. breaks_label town labels label (slice_index streets label)) labels) ∷ []
+
+-- the first rule that a record breaks after a list of records, if it breaks one
+abbrev pub broken_rule : Town → Standing → Record → Option Rule
+broken_rule town s item =
+    first_broken ((rules.Number, has_number_rules item) ∷ (rules.Lonely, is_alone s item) ∷ rules_of town s item)
