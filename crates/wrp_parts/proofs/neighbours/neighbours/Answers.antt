@@ -1,0 +1,19 @@
+use Rattle.std.proofs.Common.{length, ◌∙◌, arith}
+use Rattle.wrp_town.specs.Arcs.{tail_of, head_of}
+use Rattle.wrp_town.proofs.TownLaws.{tail_of-below}
+use Rattle.wrp_graph.proofs.Keyed.{few_entries, entry_keys-below}
+use Rattle.wrp_parts.specs.RequiredParts.{is_of_required}
+use Rattle.wrp_parts.proofs.neighbours.neighbours.Goals as goal
+
+pub new-requires-clause-few_entries : goal.new-requires-clause-few_entries
+new-requires-clause-few_entries c =
+    let town = c.args.town.now in
+    few_entries town (λ a. (tail_of town a, head_of town a)) (is_of_required town) c.as_slice.result.now (c.as_slice.ensures.value ∙ c.in_ok-ends.ensures)
+
+pub new-requires-clause-keys : goal.new-requires-clause-keys
+new-requires-clause-keys c =
+    let town = c.args.town.now in
+    entry_keys-below town (λ a. (tail_of town a, head_of town a)) (is_of_required town) c.len.result c.as_slice.result.now (c.as_slice.ensures.value ∙ c.in_ok-ends.ensures) (λ a below. omega (arith, tail_of-below town a below))
+
+pub returns : goal.returns
+returns c = ?
