@@ -1,15 +1,14 @@
 -- Parts in order: one junction more is numbered.
-use Rattle.std.proofs.Common.{◌≡◌, ℕ, zero, suc, ◌+◌, ◌<◌, ◌≤◌, Bool, true, false, ◌==◌, nat_le, max, List, [], ◌∷◌, ◌++◌, length, get_or, take, replicate, refl, sym, ap, ◌∙◌, subst, inl, inr, arith, Option, Some, None, is_some, eqb}
-use Rattle.std.specs.Prelude.{◌⊎◌, ◌&&◌}
+use Rattle.std.proofs.Common.{◌≡◌, ℕ, ◌+◌, ◌<◌, ◌≤◌, true, ◌==◌, nat_le, max, List, [], ◌∷◌, ◌++◌, length, take, replicate, refl, sym, ap, ◌∙◌, subst, inl, inr, arith, Option, Some, None, is_some}
+use Rattle.std.specs.Prelude.{◌⊎◌}
 use Rattle.std.specs.Option.{option_to_list}
 use Rattle.std.specs.List.{flat_map}
 use Rattle.std.proofs.lemmas.Bool.{and_parts, and_from, cases_lt, cases_eq, false≢true, eqb-true}
 use Rattle.std.proofs.lemmas.Bool.Decides.{nat_tests}
-use Rattle.std.proofs.lemmas.Option.{none-some, same_Some}
+use Rattle.std.proofs.lemmas.Option.{none-some}
 use Rattle.std.proofs.lemmas.List.{take_more, ext_get_or, length-take-le, get_or-take, append-nil, get_or-replicate, length-replicate, get_or_past}
 use Rattle.std.proofs.lemmas.Grind.{flat_map-append}
 use Rattle.wrp_town.specs.Streets.{come_in_order}
-use Rattle.wrp_town.proofs.TownLaws.{some_value}
 use Rattle.wrp_parts.specs.RequiredParts.{part_at}
 use Rattle.wrp_parts.specs.Traversal.{next_to, Kept, HaveParts, AreNumbered}
 use Rattle.wrp_parts.proofs.Visits.{some_kept}
@@ -53,15 +52,16 @@ first_more of r inside =
 -- where it has a part already, or no neighbours
 pub numbered_known : (rows : List (List ℕ)) (count r : ℕ) (of : List (Option ℕ)) → AreNumbered rows count r of → r < length rows → (is_some (part_at of r) ≡ true) ⊎ (length (next_to rows r) ≡ 0) → AreNumbered rows count (r + 1) of
 numbered_known rows count r of a inside known = record {
-    parts = a.parts;
-    done = λ j small some. elim (cases_eq j r)
-      [ inl same ↦ subst (λ z. is_some (part_at of z) ≡ true) (sym same)
-          (elim known [ inl has ↦ has | inr empty ↦ absurd (omega (arith, subst (λ z. 0 < length (next_to rows z)) same some)) ])
-      | inr differs ↦ a.done j (omega arith) some ];
-    in_order = subst (λ (ys : List ℕ). come_in_order count 0 ys ≡ true) (sym (first_more of r (omega (arith, a.parts.long))))
+  parts = a.parts;
+  done = λ j small some. elim (cases_eq j r) [
+    | inl same ↦ subst (λ z. is_some (part_at of z) ≡ true) (sym same)
+        (elim known [ inl has ↦ has | inr empty ↦ absurd (omega (arith, subst (λ z. 0 < length (next_to rows z)) same some)) ])
+    | inr differs ↦ a.done j (omega arith) some
+  ];
+  in_order = subst (λ (ys : List ℕ). come_in_order count 0 ys ≡ true) (sym (first_more of r (omega (arith, a.parts.long))))
       (order-at count (flat_map option_to_list (take r of)) (part_at of r) (λ q is. a.parts.fewer r q is) a.in_order);
-    few = omega (arith, a.few);
-  }
+  few = omega (arith, a.few);
+}
 
 agree : (o p : Option ℕ) → ((q : ℕ) → o ≡ Some q → p ≡ Some q) → ((q : ℕ) → p ≡ Some q → is_some o ≡ true) → p ≡ o
 agree None None kept had = refl
@@ -75,30 +75,32 @@ first_same rows count r before of a inside parts kept =
     let long_before = length-take-le r before (omega (arith, a.parts.long)) in
     ext_get_or None (take r of) (take r before) (omega arith)
     (λ j small.
-      let below : j < r = omega arith in
-      get_or-take r of j None below
-      ∙ agree (part_at before j) (part_at of j) (λ q is. kept j q is) (λ q is. a.done j below (parts.ended j q is))
-      ∙ sym (get_or-take r before j None below))
+    let below : j < r = omega arith in
+    get_or-take r of j None below
+    ∙ agree (part_at before j) (part_at of j) (λ q is. kept j q is) (λ q is. a.done j below (parts.ended j q is))
+    ∙ sym (get_or-take r before j None below))
 
 -- where it is the root of a new part
 pub numbered_new : (rows : List (List ℕ)) (count r : ℕ) (before of : List (Option ℕ)) → AreNumbered rows count r before → r < length rows → HaveParts rows (count + 1) of → Kept before of → part_at of r ≡ Some count → AreNumbered rows (count + 1) (r + 1) of
 numbered_new rows count r before of a inside parts kept root = record {
-    parts = parts;
-    done = λ j small some. elim (cases_eq j r)
-      [ inl same ↦ subst (λ z. is_some (part_at of z) ≡ true) (sym same) (ap is_some root)
-      | inr differs ↦ some_kept before of j kept (a.done j (omega arith) some) ];
-    in_order = subst (λ (ys : List ℕ). come_in_order (count + 1) 0 ys ≡ true)
+  parts = parts;
+  done = λ j small some. elim (cases_eq j r) [
+    | inl same ↦ subst (λ z. is_some (part_at of z) ≡ true) (sym same) (ap is_some root)
+    | inr differs ↦ some_kept before of j kept (a.done j (omega arith) some)
+  ];
+  in_order = subst (λ (ys : List ℕ). come_in_order (count + 1) 0 ys ≡ true)
       (sym (first_more of r (omega (arith, parts.long)) ∙ ap (λ (o : Option ℕ). flat_map option_to_list (take r of) ++ option_to_list o) root))
       (subst (λ (os : List (Option ℕ)). come_in_order (count + 1) 0 (flat_map option_to_list os ++ count ∷ []) ≡ true) (sym (first_same rows count r before of a inside parts kept))
-        (order-new count 0 (flat_map option_to_list (take r before)) a.in_order));
-    few = omega (arith, a.few);
-  }
+      (order-new count 0 (flat_map option_to_list (take r before)) a.in_order));
+  few = omega (arith, a.few);
+}
 
 -- no junction has a part at first
 none_at : (n j : ℕ) → part_at (replicate n None) j ≡ None
-none_at n j = elim (cases_lt j n)
-    [ inl inside ↦ get_or-replicate n j None None inside
-    | inr past ↦ get_or_past (replicate n None) j None (omega (arith, length-replicate {A = Option ℕ} n None)) ]
+none_at n j = elim (cases_lt j n) [
+  | inl inside ↦ get_or-replicate n j None None inside
+  | inr past ↦ get_or_past (replicate n None) j None (omega (arith, length-replicate {A = Option ℕ} n None))
+]
 
 pub numbered_none : (rows : List (List ℕ)) (n : ℕ) (of : List (Option ℕ)) → of ≡ replicate n None → n ≡ length rows → AreNumbered rows 0 0 of
 numbered_none rows n of is long =

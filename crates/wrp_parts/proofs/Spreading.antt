@@ -1,5 +1,5 @@
 -- A part that spreads from a root: what holds between two visits, at the start and at the end.
-use Rattle.std.proofs.Common.{◌≡◌, ℕ, zero, suc, ◌+◌, ◌<◌, ◌≤◌, Bool, true, false, List, [], ◌∷◌, ◌++◌, length, get_or, refl, sym, ap, ◌∙◌, subst, inl, inr, arith, Option, Some, None, is_some}
+use Rattle.std.proofs.Common.{◌≡◌, ℕ, ◌+◌, ◌<◌, List, [], ◌∷◌, ◌++◌, length, sym, ap, ◌∙◌, subst, inl, inr, arith, Option, Some, None}
 use Rattle.std.specs.Prelude.{◌⊎◌}
 use Rattle.std.specs.List.{Contains}
 use Rattle.std.proofs.lemmas.Option.{none-some, same_Some}
@@ -71,11 +71,13 @@ neighbour_has : (rows : List (List ℕ)) (root part j k : ℕ) (before of new : 
 neighbour_has rows root part j k before of new stack grown network parts s visit near =
     let at_k = some_value (part_at new k) (visit.met k near) in
     let at_j = visit.kept j part (s.stacked j (Contains-push stack j)) in
-    let same : at_k.0 ≡ part = elim (visit.fresh k at_k.0 at_k.1)
-        [ inl was ↦ elim (s.fresh k at_k.0 was)
-            [ inl old ↦ same_Some at_k.0 part (sym (visit.kept j at_k.0 (s.kept j at_k.0 (parts.closed k j at_k.0 (network.back j k near) old))) ∙ at_j)
-            | inr here ↦ here.0 ]
-        | inr here ↦ here.0 ] in
+    let same : at_k.0 ≡ part = elim (visit.fresh k at_k.0 at_k.1) [
+      | inl was ↦ elim (s.fresh k at_k.0 was) [
+        | inl old ↦ same_Some at_k.0 part (sym (visit.kept j at_k.0 (s.kept j at_k.0 (parts.closed k j at_k.0 (network.back j k near) old))) ∙ at_j)
+        | inr here ↦ here.0
+      ]
+      | inr here ↦ here.0
+    ] in
     at_k.1 ∙ ap Some same
 
 pub spreading_more : (rows : List (List ℕ)) (root part j : ℕ) (before of new : List (Option ℕ)) (stack grown : List ℕ) → IsNetwork rows → HaveParts rows part before → IsSpreading rows root part before of (stack ++ j ∷ []) → IsVisit (next_to rows j) part of stack new grown
@@ -88,36 +90,43 @@ spreading_more rows root part j before of new stack grown network parts s visit 
       fresh = λ i q is. elim (visit.fresh i q is) [ inl was ↦ s.fresh i q was | inr here ↦ inr (here.0, reached_more rows root j i to_j here.1) ];
       root_has = visit.kept root part s.root_has;
       stacked = λ i has. elim (visit.stacked i has) [ inl was ↦ visit.kept i part (s.stacked i (Contains-append_left stack (j ∷ []) i was)) | inr here ↦ here.1 ];
-      closed = λ i k near is. elim (visit.fresh i part is)
-        [ inl was ↦ elim (s.closed i k near was)
-            [ inl waits ↦ elim (Contains-push_cases stack j i waits)
-                [ inl still ↦ inl (visit.older i still)
-                | inr same ↦ inr (neighbour_has rows root part j k before of new stack grown network parts s visit (subst (λ z. Contains (next_to rows z) k) (sym same) near)) ]
-            | inr has ↦ inr (visit.kept k part has) ]
-        | inr here ↦ inl here.2 ];
+      closed = λ i k near is. elim (visit.fresh i part is) [
+        | inl was ↦ elim (s.closed i k near was) [
+          | inl waits ↦ elim (Contains-push_cases stack j i waits) [
+            | inl still ↦ inl (visit.older i still)
+            | inr same ↦ inr (neighbour_has rows root part j k before of new stack grown network parts s visit (subst (λ z. Contains (next_to rows z) k) (sym same) near))
+          ]
+          | inr has ↦ inr (visit.kept k part has)
+        ]
+        | inr here ↦ inl here.2
+      ];
     }
 
 spread_closed : (rows : List (List ℕ)) (root part j k q : ℕ) (before of : List (Option ℕ)) → HaveParts rows part before → IsSpreading rows root part before of [] → Contains (next_to rows j) k → part_at of j ≡ Some q → part_at of k ≡ Some q
 spread_closed rows root part j k q before of parts s near is =
-    elim (s.fresh j q is)
-    [ inl was ↦ s.kept k q (parts.closed j k q near was)
-    | inr here ↦ elim (s.closed j k near (is ∙ ap Some here.0)) [ inl waits ↦ absurd (no_item j waits) | inr has ↦ has ∙ ap Some (sym here.0) ] ]
+    elim (s.fresh j q is) [
+      | inl was ↦ s.kept k q (parts.closed j k q near was)
+      | inr here ↦ elim (s.closed j k near (is ∙ ap Some here.0)) [ inl waits ↦ absurd (no_item j waits) | inr has ↦ has ∙ ap Some (sym here.0) ]
+    ]
 
 spread_reached : (rows : List (List ℕ)) (root part i j q : ℕ) (before of : List (Option ℕ)) → IsNetwork rows → HaveParts rows part before → IsSpreading rows root part before of [] → part_at of i ≡ Some q → part_at of j ≡ Some q → Reached rows i j
 spread_reached rows root part i j q before of network parts s at_i at_j =
-    elim (s.fresh i q at_i)
-    [ inl old_i ↦ elim (s.fresh j q at_j)
-        [ inl old_j ↦ parts.reached i j q old_i old_j
-        | inr new_j ↦ absurd (not_before rows part i before parts (old_i ∙ ap Some new_j.0)) ]
-    | inr new_i ↦ elim (s.fresh j q at_j)
-        [ inl old_j ↦ absurd (not_before rows part j before parts (old_j ∙ ap Some new_i.0))
-        | inr new_j ↦ reached_join rows i root j (reached_back rows root i network new_i.1) new_j.1 ] ]
+    elim (s.fresh i q at_i) [
+      | inl old_i ↦ elim (s.fresh j q at_j) [
+        | inl old_j ↦ parts.reached i j q old_i old_j
+        | inr new_j ↦ absurd (not_before rows part i before parts (old_i ∙ ap Some new_j.0))
+      ]
+      | inr new_i ↦ elim (s.fresh j q at_j) [
+        | inl old_j ↦ absurd (not_before rows part j before parts (old_j ∙ ap Some new_i.0))
+        | inr new_j ↦ reached_join rows i root j (reached_back rows root i network new_i.1) new_j.1
+      ]
+    ]
 
 pub spreading_last : (rows : List (List ℕ)) (root part : ℕ) (before of : List (Option ℕ)) → IsNetwork rows → 0 < length (next_to rows root) → HaveParts rows part before → IsSpreading rows root part before of [] → HaveParts rows (part + 1) of
 spreading_last rows root part before of network ended parts s = record {
-    long = s.long ∙ parts.long;
-    fewer = λ j q is. elim (s.fresh j q is) [ inl was ↦ omega (arith, parts.fewer j q was) | inr here ↦ omega (arith, here.0) ];
-    closed = λ j k q near is. spread_closed rows root part j k q before of parts s near is;
-    reached = λ i j q at_i at_j. spread_reached rows root part i j q before of network parts s at_i at_j;
-    ended = λ j q is. elim (s.fresh j q is) [ inl was ↦ parts.ended j q was | inr here ↦ reached_ended rows root j network ended here.1 ];
-  }
+  long = s.long ∙ parts.long;
+  fewer = λ j q is. elim (s.fresh j q is) [ inl was ↦ omega (arith, parts.fewer j q was) | inr here ↦ omega (arith, here.0) ];
+  closed = λ j k q near is. spread_closed rows root part j k q before of parts s near is;
+  reached = λ i j q at_i at_j. spread_reached rows root part i j q before of network parts s at_i at_j;
+  ended = λ j q is. elim (s.fresh j q is) [ inl was ↦ parts.ended j q was | inr here ↦ reached_ended rows root j network ended here.1 ];
+}

@@ -1,5 +1,5 @@
 -- Traversal of a network: row j of its rows lists the neighbours of junction j.
-use Rattle.std.specs.Prelude.{◌≡◌, ℕ, ◌+◌, ◌<◌, ◌≤◌, Bool, true, not, ◌⊎◌, List, [], length, take, slice_index_or, Option, Some, is_some}
+use Rattle.std.specs.Prelude.{◌≡◌, ℕ, ◌+◌, ◌<◌, ◌≤◌, true, not, ◌⊎◌, List, [], length, take, slice_index_or, Option, Some, is_some}
 use Rattle.std.specs.Option.{option_to_list}
 use Rattle.std.specs.List.{Contains, count_by, flat_map}
 use Rattle.wrp_town.specs.Streets.{come_in_order}

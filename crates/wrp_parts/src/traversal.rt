@@ -9,7 +9,11 @@ use wrp_graph::Buckets;
 
 /// Numbers the parts of a network by their least junctions. Junctions without neighbours have none.
 /// It gives the number of parts.
-pub fn number_parts(alloc: Global, rows: &Buckets, of: &mut [Option<u32>]) -> Result<u32, AllocError>
+pub fn number_parts(
+    alloc: Global,
+    rows: &Buckets,
+    of: &mut [Option<u32>],
+) -> Result<u32, AllocError>
     requires network { IsNetwork rows.now }
     requires few { length rows.now < 2 ^ 32 }
     requires none { AreNumbered rows.now 0 0 of.old }
@@ -23,7 +27,13 @@ pub fn number_parts(alloc: Global, rows: &Buckets, of: &mut [Option<u32>]) -> Re
 }
 
 /// Gives a junction its part, where it has neighbours and no part yet. It gives the number of parts.
-fn number_from(alloc: Global, rows: &Buckets, count: u32, root: u32, of: &mut [Option<u32>]) -> Result<u32, AllocError>
+fn number_from(
+    alloc: Global,
+    rows: &Buckets,
+    count: u32,
+    root: u32,
+    of: &mut [Option<u32>],
+) -> Result<u32, AllocError>
     requires network { IsNetwork rows.now }
     requires few { length rows.now < 2 ^ 32 }
     requires root { root < length rows.now }
@@ -38,7 +48,13 @@ fn number_from(alloc: Global, rows: &Buckets, count: u32, root: u32, of: &mut [O
 }
 
 /// Gives a part to a junction and to all that it reaches.
-fn spread(alloc: Global, rows: &Buckets, root: u32, part: u32, of: &mut [Option<u32>]) -> Result<(), AllocError>
+fn spread(
+    alloc: Global,
+    rows: &Buckets,
+    root: u32,
+    part: u32,
+    of: &mut [Option<u32>],
+) -> Result<(), AllocError>
     requires network { IsNetwork rows.now }
     requires few { length rows.now < 2 ^ 32 }
     requires root { root < length rows.now }
@@ -58,7 +74,12 @@ fn spread(alloc: Global, rows: &Buckets, root: u32, part: u32, of: &mut [Option<
 }
 
 /// Visits junctions one after the other.
-fn visit(junctions: &[u32], part: u32, of: &mut [Option<u32>], stack: &mut Vec<u32>) -> Result<(), AllocError>
+fn visit(
+    junctions: &[u32],
+    part: u32,
+    of: &mut [Option<u32>],
+    stack: &mut Vec<u32>,
+) -> Result<(), AllocError>
     requires { All (λ j. j < length of.old) junctions.now }
     ensures { OnOk result (IsVisit junctions.now part of.old stack.old.items of.new stack.new.items) }
 {

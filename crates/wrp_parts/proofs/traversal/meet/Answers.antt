@@ -1,4 +1,4 @@
-use Rattle.std.proofs.Common.{◌≡◌, ℕ, List, [], ◌∷◌, ◌++◌, Some, set, sym, subst}
+use Rattle.std.proofs.Common.{ℕ, List, [], ◌∷◌, Some, set, sym, subst}
 use Rattle.wrp_parts.specs.Traversal.{IsVisit}
 use Rattle.wrp_parts.proofs.Visits.{visit_new, none_from_test}
 use Rattle.wrp_parts.proofs.traversal.meet.Goals as goal

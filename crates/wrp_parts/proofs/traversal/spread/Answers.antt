@@ -1,8 +1,8 @@
-use Rattle.std.proofs.Common.{◌≡◌, ℕ, ◌<◌, List, [], ◌∷◌, ◌++◌, length, get_or, sym, ap, ◌∙◌, subst, arith}
+use Rattle.std.proofs.Common.{ℕ, List, [], ◌∷◌, get_or, subst, arith}
 use Rattle.std.specs.List.{Contains}
 use Rattle.std.proofs.lemmas.List.{nil_from_length}
-use Rattle.std.proofs.lemmas.List.Elements.{Contains-push, Contains-get_or}
-use Rattle.wrp_parts.specs.Traversal.{IsVisit, next_to}
+use Rattle.std.proofs.lemmas.List.Elements.{Contains-get_or}
+use Rattle.wrp_parts.specs.Traversal.{IsVisit}
 use Rattle.wrp_parts.proofs.Spreading.{IsSpreading, spreading_first, spreading_more, spreading_last, next_inside}
 use Rattle.wrp_parts.proofs.traversal.spread.Goals as goal
 

@@ -1,4 +1,4 @@
-use Rattle.std.proofs.Common.{ℕ, ◌+◌, List, [], ◌∷◌, get_or, take, sym, subst}
+use Rattle.std.proofs.Common.{ℕ, List, [], ◌∷◌, get_or, take, sym, subst}
 use Rattle.std.proofs.lemmas.List.{take_more}
 use Rattle.wrp_parts.specs.Traversal.{IsVisit}
 use Rattle.wrp_parts.proofs.Visits.{visit_join}
