@@ -1,1 +1,3 @@
 pub mod RequiredParts
+pub mod Neighbours
+pub mod Traversal

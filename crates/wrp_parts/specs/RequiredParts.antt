@@ -1,5 +1,5 @@
 -- The parts of a town: the pieces into which its required streets join the junctions.
-use Rattle.std.specs.Prelude.{◌≡◌, ℕ, ◌<◌, ◌/◌, Bool, true, ◌&&◌, ◌||◌, ◌==◌, ◌↔◌, List, length, slice_index_or, Option, None, Some, is_some}
+use Rattle.std.specs.Prelude.{◌≡◌, ℕ, ◌<◌, ◌/◌, Bool, true, ◌&&◌, ◌==◌, ◌↔◌, List, length, slice_index_or, Option, None, Some, is_some}
 use Rattle.std.specs.Option.{option_to_list}
 use Rattle.std.specs.List.{list_any, flat_map}
 use Rattle.wrp_town.specs.declared.town.Town.{Town}
