@@ -60,10 +60,11 @@ onward town table walk arcs = map (λ arc. record { 0 = along town walk arc }) (
 abbrev pub work_left : Town → List (Option Arrival) → List (Reverse Arrival) → ℕ
 work_left town table queue = unsettled table * (2 * length town.streets + 1) + length queue
 
--- the order in which walks leave the queue: the greatest comes first, so a walk of less cost is greater
+-- walks are compared by their costs first
 abbrev pub compare_walks : Arrival → Arrival → Ordering
 compare_walks x y =
     ordering_then (nat_cmp x.cost y.cost) (ordering_then (nat_cmp x.hops y.hops) (ordering_then (nat_cmp x.junction y.junction) (ordering_then (nat_cmp x.before y.before) (nat_cmp x.arc y.arc))))
 
+-- the order of the queue, which gives its greatest first: a walk of less cost is greater
 abbrev pub dearer_first : Reverse Arrival → Reverse Arrival → Ordering
 dearer_first x y = compare_walks y.0 x.0

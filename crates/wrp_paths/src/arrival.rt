@@ -1,18 +1,20 @@
-//! Walks to a junction, of which each keeps its last arc alone.
+//! Walks to a junction, and tables of them.
 ghost use Rattle.std.specs.Prelude.{◌≡◌, ◌*◌, ◌^◌, ◌<◌, ◌≤◌, true};
 ghost use Rattle.wrp_town.specs.Arcs.{is_legal};
 ghost use Rattle.wrp_paths.specs.Arrivals.{start_at, along, step_along, entry_at};
 
 use wrp_town::{Step, Town};
 
-/// A walk to a junction. Where it has a step, its last arc leads there from the junction before. Of two
-/// walks the one of less cost is the lesser.
+/// A walk to a junction, of which the last arc alone is kept. Of two walks the one of less cost is the
+/// lesser.
 #[derive(Clone, Copy, Debug, PartialEq, Eq, PartialOrd, Ord)]
 pub struct Arrival {
     pub cost: u64,
-    /// The number of steps.
+    /// The number of steps. Where it is 0, no last arc is there to be read.
     pub hops: u32,
+    /// Where the walk ends.
     pub junction: u32,
+    /// Where its last arc begins.
     pub before: u32,
     pub arc: u32,
 }

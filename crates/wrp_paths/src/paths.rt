@@ -61,7 +61,8 @@ impl Paths {
     }
 }
 
-/// The last steps of the walk to a junction.
+/// The last steps of the walk to a junction, as many as there are hops. Each entry names the junction
+/// before, so they are read from the last one back.
 fn read_back(
     alloc: Global,
     table: &[Option<Arrival>],
