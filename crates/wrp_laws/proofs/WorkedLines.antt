@@ -1,12 +1,10 @@
--- The lines of records and the text of a proof, worked out.
+-- The line of a record and the text of a proof, worked out.
 use Rattle.std.specs.Prelude.{codes}
 use Rattle.std.specs.Fmt.{digits}
-use Rattle.std.proofs.Common.{◌≡◌, ℕ, true, false, List, [], ◌∷◌, ◌++◌, None, Some, refl, arith}
+use Rattle.std.proofs.Common.{◌≡◌, ℕ, List, [], ◌∷◌, ◌++◌, refl, arith}
 use Rattle.wrp_rules.specs.declared.record.Record.TheVariants.{Bound}
 use Rattle.wrp_rules.specs.declared.record.End.TheVariants.{Optimal}
 use Rattle.wrp_rules.specs.Lines.{line_of}
-use Rattle.wrp_proof.specs.Views.{spelled}
-use Rattle.wrp_lines.specs.Shapes.{has_shape}
 use Rattle.wrp_rules.specs.Proofs.{version_1, IsProofBy, ended}
 use Rattle.wrp_laws.proofs.WorkedTowns.{windy_street}
 use Rattle.wrp_laws.proofs.WorkedLists.{odd_list}
@@ -15,25 +13,6 @@ use Rattle.wrp_laws.proofs.WorkedLists.{odd_list}
 pub bound_is_written : line_of (Bound 0 2 ((1, 1) ∷ (3, 5) ∷ [])) ≡ codes "b 0 2 1:1 3:5"
 unfolding digits
 bound_is_written = refl
-
--- and the record that it spells
-pub bound_is_spelled : spelled (codes "b 0 2 1:1 3:5") ≡ Some (Bound 0 2 ((1, 1) ∷ (3, 5) ∷ []))
-unfolding spelled
-bound_is_spelled = refl
-
--- a number with a leading 0 keeps the shape, and spells no record
-pub leading_zero_spells_none : (has_shape (codes "b 0 1 3:03 4:4") ≡ true) × (spelled (codes "b 0 1 3:03 4:4") ≡ None)
-unfolding spelled
-leading_zero_spells_none = (refl, refl)
-
-pub cost_with_zero_spells_none : (has_shape (codes "t 05 0+ 0-") ≡ true) × (spelled (codes "t 05 0+ 0-") ≡ None)
-unfolding spelled
-cost_with_zero_spells_none = (refl, refl)
-
--- two spaces aren't the shape of a line
-pub two_spaces_have_no_shape : (has_shape (codes "t  5") ≡ false) × (spelled (codes "t  5") ≡ None)
-unfolding spelled
-two_spaces_have_no_shape = (refl, refl)
 
 -- the bytes of a whole proof
 abbrev pub proof_bytes : List ℕ

@@ -7,3 +7,4 @@ pub mod Narrow
 pub mod EndLaws
 pub mod SpelledLaws
 pub mod RoundTrips
+pub mod WorkedSpelling
