@@ -6,3 +6,6 @@ mod parts;
 mod traversal;
 
 pub use parts::{Parts, required_parts};
+
+#[cfg(test)]
+mod tests;
