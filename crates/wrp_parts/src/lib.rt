@@ -6,6 +6,3 @@ mod parts;
 mod traversal;
 
 pub use parts::{Parts, required_parts};
-
-#[cfg(test)]
-mod tests;

@@ -26,6 +26,10 @@ const TRIANGLE: &[u8] =
 const CLOSED: &[u8] =
     b"street,from,to,forward,backward,need\na,A,B,1,1,no\nb,C,B,-,-,yes\nl,D,D,1,-,backward\nc,E,C,-,4,both\nd,E,D,1,1,no\n";
 
+// Two required streets, whose ends come in turn.
+const CROSSED: &[u8] =
+    b"street,from,to,forward,backward,need\na,A,B,1,1,no\nb,A,C,1,1,yes\nc,D,B,1,1,forward\n";
+
 // The parts of a town: how many, and the part of each junction.
 fn parts_of(alloc: Global, town: &Town) -> Result<(u32, List<Option<u32>>), AllocError> {
     let graph = Graph::new(alloc, town)?;
@@ -161,6 +165,7 @@ fn parts_come_by_their_least_junctions(rt: HostRuntime) -> Result<(), Fail> {
             2,
             [None, Some(0), Some(0), Some(1), Some(0)].as_slice(),
         ),
+        (CROSSED, 2, [Some(0), Some(1), Some(0), Some(1)].as_slice()),
         (ONE_WAY, 1, [Some(0), Some(0)].as_slice()),
     ] {
         match read_town(alloc, table) {
