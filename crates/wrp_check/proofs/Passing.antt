@@ -1,20 +1,19 @@
 -- How the lines that the checker reads decide its verdict.
-use Rattle.std.proofs.Common.{Bool, cond, ◌&&◌, ◌≡◌, ◌≢◌, ℕ, ◌+◌, ◌<◌, ◌≤◌, ◌^◌, true, false, List, [], ◌∷◌, ◌++◌, length, Option, None, Some, IfSome, IfOk, IfErr, OnOk, Result, Ok, Err, refl, sym, ◌∙◌, ap, subst, append_assoc, arith}
+use Rattle.std.proofs.Common.{Bool, cond, ◌&&◌, ◌≡◌, ◌≢◌, ℕ, ◌+◌, ◌≤◌, ◌^◌, true, false, List, [], ◌∷◌, ◌++◌, length, Option, None, Some, IfSome, IfOk, IfErr, OnOk, Result, Ok, Err, refl, sym, ◌∙◌, ap, subst, append_assoc, arith}
 use Rattle.std.specs.Str.{bytes_eq}
 use Rattle.wrp_town.specs.Arcs.{is_small}
 use Rattle.wrp_rules.specs.Proofs.{version_1, version_2}
 use Rattle.wrp_out.specs.Told.{Took, Tells}
-use Rattle.wrp_out.proofs.ToldFacts.{took_nothing, took_then, took_all, took_whole}
+use Rattle.wrp_out.proofs.ToldFacts.{took_nothing, took_then, took_whole}
 use Rattle.wrp_town.specs.declared.town.Town.{Town}
-use Rattle.wrp_rules.specs.declared.record.Record.{Record}
 use Rattle.wrp_rules.specs.declared.record.End.{End}
 use Rattle.wrp_rules.specs.declared.rule.Rule.{Rule}
 use Rattle.wrp_rules.specs.declared.rule.Rule.TheVariants as rules
 use Rattle.wrp_rules.specs.Nodes.{Standing, start, after}
 use Rattle.wrp_check.specs.declared.pass.CheckFault.{CheckFault}
 use Rattle.wrp_check.specs.declared.pass.CheckFault.TheVariants as faults
-use Rattle.wrp_check.specs.Streams.{Reading, most_bytes, is_one_line, left_in}
-use Rattle.wrp_check.specs.Verdicts.{Verdict, Accepted, Refused, Long, is_long, is_end, judged_line, judged_end, verdict, verdict_on, limit_of, FaultIs}
+use Rattle.wrp_check.specs.Streams.{Reading, most_bytes, left_in}
+use Rattle.wrp_check.specs.Verdicts.{Verdict, Accepted, is_end, judged_line, judged_end, verdict, verdict_on, limit_of, FaultIs}
 use Rattle.wrp_check.specs.declared.judge.Judge.{Judge}
 use Rattle.wrp_check.specs.Judging.{Stands, Judges}
 use Rattle.wrp_check.specs.Passes.{TookLine, Unread, Behind, Begins, GoesOn, Closes, Reaches, Whole}

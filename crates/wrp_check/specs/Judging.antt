@@ -1,5 +1,5 @@
 -- What the checker keeps of the records so far, and what it says of one more line.
-use Rattle.std.specs.Prelude.{◌≡◌, ℕ, ◌*◌, Bool, false, not, ◌&&◌, ◌==◌, if◌then◌else◌, int_lt, ℤ, pos, List, [], ◌∷◌, length, Option, None, Some, Result, Ok, Err}
+use Rattle.std.specs.Prelude.{◌≡◌, ℕ, ◌*◌, Bool, false, not, ◌&&◌, ◌==◌, if◌then◌else◌, int_lt, ℤ, pos, [], ◌∷◌, length, Option, None, Some, Result, Ok, Err}
 use Rattle.std.specs.Option.{option_map_or}
 use Rattle.std.specs.List.{list_any}
 use Rattle.wrp_town.specs.declared.town.Town.{Town}

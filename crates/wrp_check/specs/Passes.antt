@@ -1,5 +1,5 @@
 -- How the checker passes over the lines of a proof. `told` is what is left of the proof, where the source tells it.
-use Rattle.std.specs.Prelude.{◌≡◌, ◌≢◌, ℕ, ◌+◌, ◌<◌, ◌≤◌, ◌^◌, Bool, true, false, List, [], ◌∷◌, ◌++◌, length, Option}
+use Rattle.std.specs.Prelude.{◌≡◌, ◌≢◌, ℕ, ◌+◌, ◌<◌, ◌≤◌, ◌^◌, true, false, List, [], ◌∷◌, ◌++◌, length, Option}
 use Rattle.wrp_out.specs.Told.{Took, Tells}
 use Rattle.wrp_town.specs.declared.town.Town.{Town}
 use Rattle.wrp_rules.specs.declared.record.End.{End}
@@ -9,7 +9,7 @@ use Rattle.wrp_check.specs.declared.pass.CheckFault.{CheckFault}
 use Rattle.wrp_check.specs.declared.pass.CheckFault.TheVariants as faults
 use Rattle.wrp_check.specs.declared.judge.Judge.{Judge}
 use Rattle.wrp_check.specs.Streams.{most_bytes, is_one_line, PassesLimit}
-use Rattle.wrp_check.specs.Verdicts.{Verdict, Accepted, is_long, verdict, verdict_on}
+use Rattle.wrp_check.specs.Verdicts.{Accepted, is_long, verdict, verdict_on}
 use Rattle.wrp_check.specs.Judging.{Stands}
 
 -- a line with its line feed was taken, after so many bytes
