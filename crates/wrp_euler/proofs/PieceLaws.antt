@@ -14,7 +14,8 @@ use Rattle.wrp_graph.specs.Pieces.{Joined}
 use Rattle.wrp_euler.specs.Circuits.{AreCounts, AreBalanced, AreOnePiece, AreNone, AreApart, IsCircuit, IsLeastUsed, is_used, leaving, entering}
 use Rattle.wrp_euler.specs.Trails.{IsPiece}
 use Rattle.wrp_euler.proofs.StarSums.{sum_by_plus, sum_by_same, star_term}
-use Rattle.wrp_euler.proofs.WalkCounts.{count_reverse, walk_balance, walk_tails, walk_joins, joined_trans, joined_turned, joined_keeps}
+use Rattle.wrp_euler.proofs.WalkCounts.{count_reverse, walk_balance, walk_tails, walk_joins}
+use Rattle.wrp_graph.proofs.Joins.{joined_trans, joined_turned, joined_keeps}
 
 -- ---- counts
 
@@ -56,7 +57,7 @@ module _ (town : Town) (counts : List ℕ) (base : ℕ) (left : List ℕ) (done 
 
   -- no arc is left at a junction that is joined with the base
   joined_spent : AreCounts town counts → AreBalanced town counts → (j : ℕ) → Joined town (is_used counts) base j → leaving town left j ≡ 0
-  joined_spent are balanced j joined = joined_keeps (λ k. leaving town left k ≡ 0) town (is_used counts) on back base j joined piece.base_spent
+  joined_spent are balanced j joined = joined_keeps (λ k. leaving town left k ≡ 0) town (is_used counts) (λ arc below. on arc) (λ arc below. back arc) base j joined piece.base_spent
     where
       on : (arc : ℕ) → is_used counts arc ≡ true → leaving town left (tail_of town arc) ≡ 0 → leaving town left (head_of town arc) ≡ 0
       on arc used spent =

@@ -93,27 +93,6 @@ walk_tails P town i (step ∷ steps) j lead first heads arc used =
 
 -- ---- joined junctions
 
-pub joined_trans : (town : Town) (taken : ℕ → Bool) (c a b : ℕ) → Joined town taken a b → Joined town taken b c → Joined town taken a c
-joined_trans town taken c a b (here j) second = second
-joined_trans town taken c a b (along arc k below is rest) second = along arc c below is (joined_trans town taken c _ _ rest second)
-joined_trans town taken c a b (against arc k below is rest) second = against arc c below is (joined_trans town taken c _ _ rest second)
-
-pub joined_turned : (town : Town) (taken : ℕ → Bool) (a b : ℕ) → Joined town taken a b → Joined town taken b a
-joined_turned town taken a b (here j) = here j
-joined_turned town taken a b (along arc k below is rest) =
-    joined_trans town taken _ _ _ (joined_turned town taken _ _ rest) (against arc _ below is (here _))
-joined_turned town taken a b (against arc k below is rest) =
-    joined_trans town taken _ _ _ (joined_turned town taken _ _ rest) (along arc _ below is (here _))
-
--- what each arc that is taken carries over in both directions holds of all that is joined
-pub joined_keeps : (P : ℕ → Type 0) (town : Town) (taken : ℕ → Bool)
-    → ((arc : ℕ) → taken arc ≡ true → P (tail_of town arc) → P (head_of town arc))
-    → ((arc : ℕ) → taken arc ≡ true → P (head_of town arc) → P (tail_of town arc))
-    → (a b : ℕ) → Joined town taken a b → P a → P b
-joined_keeps P town taken on back a b (here j) first = first
-joined_keeps P town taken on back a b (along arc k below is rest) first = joined_keeps P town taken on back _ _ rest (on arc is first)
-joined_keeps P town taken on back a b (against arc k below is rest) first = joined_keeps P town taken on back _ _ rest (back arc is first)
-
 -- a walk joins where it begins with where each of its arcs begins
 pub walk_joins : (town : Town) (taken : ℕ → Bool) (i : ℕ) (steps : List Step) (j : ℕ) → leads town i steps j ≡ true
     → ((arc : ℕ) → 0 < count_of steps arc → taken arc ≡ true) → (arc : ℕ) → 0 < count_of steps arc → Joined town taken i (tail_of town arc)

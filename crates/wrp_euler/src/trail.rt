@@ -71,7 +71,7 @@ impl Trail {
         ensures { OnOk result (GoesOn graph.now self.old self.new) }
     {
         self.left[arc as usize] -= 1;
-        self.path.push(step_of(arc))?;
+        self.path.push(Step::along(arc))?;
         self.at = graph.town().head(arc);
         Ok(())
     }
@@ -121,16 +121,6 @@ impl Trail {
         let mut trail = Trail::new(alloc, graph, counts, base)?;
         while trail.turn(graph)? {}
         Ok(trail)
-    }
-}
-
-/// The step of an arc.
-fn step_of(arc: u32) -> Step
-    ensures { arc_of result ≡ arc }
-{
-    Step {
-        street: arc / 2,
-        back: arc % 2 == 1,
     }
 }
 

@@ -11,7 +11,8 @@ use Rattle.wrp_town.specs.declared.street.Street.{Street}
 use Rattle.wrp_town.specs.declared.town.Town.{Town}
 use Rattle.wrp_town.specs.Arcs.{arcs, is_required, tail_of, head_of, street_of}
 use Rattle.wrp_town.proofs.TownLaws.{street_of_below, tail_of-at, head_of-at, tail_of-below, head_of-below}
-use Rattle.wrp_graph.specs.Pieces.{Joined, here, along, against}
+use Rattle.wrp_graph.specs.Pieces.{Joined, here, along}
+use Rattle.wrp_graph.proofs.Joins.{joined_keeps}
 use Rattle.wrp_parts.specs.RequiredParts.{is_of_required, ends_required, part_at}
 use Rattle.wrp_parts.specs.Neighbours.{required_arcs, neighbours_at, neighbours_of}
 use Rattle.wrp_parts.specs.Traversal.{next_to, IsNetwork, Reached, stay, go, HaveParts}
@@ -155,13 +156,11 @@ edge_along town arc below required = record { arc = arc; below = below; required
 
 -- what is joined with a junction has its part
 pub part_of_joined : (town : Town) (i j count part : ℕ) (of : List (Option ℕ)) → HaveParts (neighbours_of town) count of → Joined town (is_of_required town) i j → part_at of i ≡ Some part → part_at of j ≡ Some part
-part_of_joined town i j count part of parts (here m) is = is
-part_of_joined town i j count part of parts (along arc n below required rest) is =
-    part_of_joined town (head_of town arc) n count part of parts rest
-    (parts.closed (tail_of town arc) (head_of town arc) part (edge_into town (tail_of town arc) (head_of town arc) (edge_along town arc below required)) is)
-part_of_joined town i j count part of parts (against arc n below required rest) is =
-    part_of_joined town (tail_of town arc) n count part of parts rest
-    (parts.closed (head_of town arc) (tail_of town arc) part (edge_into town (head_of town arc) (tail_of town arc) (edge_back town (tail_of town arc) (head_of town arc) (edge_along town arc below required))) is)
+part_of_joined town i j count part of parts joined is =
+    joined_keeps (λ k. part_at of k ≡ Some part) town (is_of_required town)
+    (λ arc below required has. parts.closed (tail_of town arc) (head_of town arc) part (edge_into town (tail_of town arc) (head_of town arc) (edge_along town arc below required)) has)
+    (λ arc below required has. parts.closed (head_of town arc) (tail_of town arc) part (edge_into town (head_of town arc) (tail_of town arc) (edge_back town (tail_of town arc) (head_of town arc) (edge_along town arc below required))) has)
+    i j joined is
 
 -- ---- where required streets end
 

@@ -5,14 +5,15 @@ use Rattle.std.proofs.lemmas.Bool.{or_cases, false≢true, eqb-true, eq-eqb}
 use Rattle.std.proofs.lemmas.Option.{none-some, same_Some}
 use Rattle.wrp_town.specs.declared.street.Step.{Step}
 use Rattle.wrp_town.specs.declared.town.Town.{Town}
-use Rattle.wrp_town.specs.Arcs.{tail_of, head_of, is_legal, cost_or_zero, arc_of}
+use Rattle.wrp_town.specs.Arcs.{tail_of, head_of, is_legal, cost_or_zero, arc_of, step_along}
+use Rattle.wrp_town.proofs.TownLaws.{arc_of-step_along}
 use Rattle.wrp_town.specs.Walks.{leads, walk_cost}
 use Rattle.wrp_town.proofs.WalkLaws.{LeadsBy-from_leads, leads-push, walk_cost-cons, walk_cost-append}
 use Rattle.wrp_paths.specs.declared.arrival.Arrival.{Arrival}
-use Rattle.wrp_paths.specs.Arrivals.{entry_at, step_along, steps_to, ways_of}
+use Rattle.wrp_paths.specs.Arrivals.{entry_at, steps_to, ways_of}
 use Rattle.wrp_paths.specs.Distances.{IsDistance, AreShortest}
 use Rattle.wrp_paths.specs.Search.{begins, goes_on, IsSearch, is_settled, is_known}
-use Rattle.wrp_paths.proofs.Tables.{settled_walk, is_settled-more, length-ways_of, way_to-ways_of, arc_of-step_along, steps_to-more}
+use Rattle.wrp_paths.proofs.Tables.{settled_walk, is_settled-more, length-ways_of, way_to-ways_of, steps_to-more}
 
 settled_if_known : (table : List (Option Arrival)) (j cost : ℕ) → is_known table [] j cost ≡ true → is_settled table j cost ≡ true
 settled_if_known table j cost known = elim (or_cases (is_settled table j cost) false known) [ inl settled ↦ settled | inr never ↦ absurd (false≢true never) ]

@@ -8,9 +8,9 @@ use Rattle.std.proofs.lemmas.List.Sums.{sum_by-set}
 use Rattle.std.proofs.lemmas.Option.{none-some, same_Some}
 use Rattle.wrp_town.specs.declared.street.Step.{Step}
 use Rattle.wrp_town.specs.declared.town.Town.{Town}
-use Rattle.wrp_town.specs.Arcs.{arc_of}
+use Rattle.wrp_town.specs.Arcs.{step_along}
 use Rattle.wrp_paths.specs.declared.arrival.Arrival.{Arrival}
-use Rattle.wrp_paths.specs.Arrivals.{entry_at, step_along, steps_to, way_at, ways_of}
+use Rattle.wrp_paths.specs.Arrivals.{entry_at, steps_to, way_at, ways_of}
 use Rattle.wrp_paths.specs.Distances.{way_to}
 use Rattle.wrp_paths.specs.Search.{IsWalk, begins, goes_on, is_settled, unsettled}
 
@@ -76,13 +76,6 @@ length-ways_of table = length-map-range_with_len (way_at table) 0 (length table)
 
 pub way_to-ways_of : (table : List (Option Arrival)) (j : ℕ) → j < length table → way_to (ways_of table) j ≡ way_at table j
 way_to-ways_of table j below = get_or-map-range_with_len (way_at table) 0 (length table) j j None below (omega arith)
-
-half_and_rest : (arc : ℕ) (odd : Bool) → (arc % 2 == 1) ≡ odd → 2 * (arc / 2) + cond odd 1 0 ≡ arc
-half_and_rest arc true is = omega (arith, eqb-true (arc % 2) 1 is)
-half_and_rest arc false is = omega (arith, eqb-false (arc % 2) 1 is)
-
-pub arc_of-step_along : (arc : ℕ) → arc_of (step_along arc) ≡ arc
-arc_of-step_along arc = half_and_rest arc (arc % 2 == 1) refl
 
 -- ---- a walk is read back from its last step
 

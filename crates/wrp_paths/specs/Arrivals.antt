@@ -1,10 +1,10 @@
 -- Tables of walks: for each junction the last arc of a walk that leads there. The walk is read back from them.
-use Rattle.std.specs.Prelude.{ℕ, zero, suc, ◌+◌, ◌/◌, ◌%◌, ◌==◌, List, [], ◌∷◌, ◌++◌, length, map, slice_index_or, Option, None}
+use Rattle.std.specs.Prelude.{ℕ, zero, suc, ◌+◌, List, [], ◌∷◌, ◌++◌, length, map, slice_index_or, Option, None}
 use Rattle.std.specs.List.{range_with_len}
 use Rattle.std.specs.Option.{option_map, option_map_or}
 use Rattle.wrp_town.specs.declared.street.Step.{Step}
 use Rattle.wrp_town.specs.declared.town.Town.{Town}
-use Rattle.wrp_town.specs.Arcs.{head_of, cost_or_zero}
+use Rattle.wrp_town.specs.Arcs.{head_of, cost_or_zero, step_along}
 use Rattle.wrp_paths.specs.declared.arrival.Arrival.{Arrival}
 
 -- the walk of no steps at a junction
@@ -20,10 +20,6 @@ along town walk arc = record {
   before = walk.junction;
   arc = arc;
 }
-
--- the step that drives an arc
-abbrev pub step_along : ℕ → Step
-step_along arc = record { street = arc / 2; back = arc % 2 == 1 }
 
 -- what a table holds of a junction
 abbrev pub entry_at : List (Option Arrival) → ℕ → Option Arrival

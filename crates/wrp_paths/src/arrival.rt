@@ -1,7 +1,7 @@
 //! Walks to a junction, and tables of them.
 ghost use Rattle.std.specs.Prelude.{◌≡◌, ◌*◌, ◌^◌, ◌<◌, ◌≤◌, true};
-ghost use Rattle.wrp_town.specs.Arcs.{is_legal};
-ghost use Rattle.wrp_paths.specs.Arrivals.{start_at, along, step_along, entry_at};
+ghost use Rattle.wrp_town.specs.Arcs.{is_legal, step_along};
+ghost use Rattle.wrp_paths.specs.Arrivals.{start_at, along, entry_at};
 
 use wrp_town::{Step, Town};
 
@@ -53,10 +53,7 @@ impl Arrival {
     pub fn step(self) -> Step
         ensures { result ≡ step_along self.arc }
     {
-        Step {
-            street: self.arc / 2,
-            back: self.arc % 2 == 1,
-        }
+        Step::along(self.arc)
     }
 }
 

@@ -3,14 +3,14 @@ use Rattle.std.proofs.Common.{◌≡◌, ℕ, suc, zero, ◌+◌, ◌*◌, ◌/�
 use Rattle.std.specs.Prelude.{IfSome, if◌then◌else◌, slice_get}
 use Rattle.std.specs.List.{list_all}
 use Rattle.std.specs.Option.{unwrap_or}
-use Rattle.std.proofs.lemmas.Bool.{and_parts, ltb-true, leb-true, false≢true}
+use Rattle.std.proofs.lemmas.Bool.{and_parts, ltb-true, leb-true, eqb-true, eqb-false, false≢true}
 use Rattle.std.proofs.lemmas.Option.{option_and_then_some, slice_get_within, same_Some, none-some}
 use Rattle.wrp_town.specs.declared.street.Street.{Street}
 use Rattle.wrp_town.specs.declared.street.Step.{Step}
 use Rattle.wrp_town.specs.declared.town.Town.{Town}
 use Rattle.wrp_town.specs.Names.{is_name}
 use Rattle.wrp_town.specs.Streets.{is_cost, is_street}
-use Rattle.wrp_town.specs.Arcs.{street_of, cost_of, tail_of, head_of, is_legal, cost_or_zero, demands, arc_of}
+use Rattle.wrp_town.specs.Arcs.{street_of, cost_of, tail_of, head_of, is_legal, cost_or_zero, demands, arc_of, step_along}
 
 -- ---- lists and options
 
@@ -159,3 +159,12 @@ arc_of-rest step = arc-rest step.street step.back
 -- a legal step names a street
 pub legal_step_below : (town : Town) (step : Step) → is_legal town (arc_of step) ≡ true → step.street < length town.streets
 legal_step_below town step legal = omega (arith, legal_below town (arc_of step) legal, arc_of-half step)
+
+-- ---- the step along an arc
+
+half_and_rest : (arc : ℕ) (odd : Bool) → (arc % 2 == 1) ≡ odd → 2 * (arc / 2) + cond odd 1 0 ≡ arc
+half_and_rest arc true is = omega (arith, eqb-true (arc % 2) 1 is)
+half_and_rest arc false is = omega (arith, eqb-false (arc % 2) 1 is)
+
+pub arc_of-step_along : (arc : ℕ) → arc_of (step_along arc) ≡ arc
+arc_of-step_along arc = half_and_rest arc (arc % 2 == 1) refl

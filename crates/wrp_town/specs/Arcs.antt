@@ -67,3 +67,7 @@ is_small town =
 -- the arc of a step
 abbrev pub arc_of : Step → ℕ
 arc_of step = 2 * step.street + (if step.back then 1 else 0)
+
+-- the step along an arc
+abbrev pub step_along : ℕ → Step
+step_along arc = record { street = arc / 2; back = arc % 2 == 1 }

@@ -2,13 +2,24 @@
 ghost use Rattle.std.specs.Prelude.{◌≡◌, ℕ, ◌^◌, ◌<◌, ◌≤◌, ◌&&◌, ◌==◌, true, Some, None, if◌then◌else◌, List, length, IfSome};
 ghost use Rattle.std.specs.List.{list_all};
 ghost use Rattle.wrp_town.specs.Streets.{demands_at};
-ghost use Rattle.wrp_town.specs.Arcs.{cost_of, tail_of, head_of, is_legal, has_arc, arc_of};
+ghost use Rattle.wrp_town.specs.Arcs.{cost_of, tail_of, head_of, is_legal, has_arc, arc_of, step_along};
 ghost use Rattle.wrp_town.specs.Walks.{leads, is_closed_walk, serves, serves_all, is_tour, walk_cost};
 
 use crate::street::{Need, Step};
 use crate::town::Town;
 
 impl Step {
+    /// The step along an arc.
+    pub fn along(arc: u32) -> Step
+        ensures value { result ≡ step_along arc }
+        ensures arc { arc_of result ≡ arc }
+    {
+        Step {
+            street: arc / 2,
+            back: arc % 2 == 1,
+        }
+    }
+
     /// The arc of the step.
     pub fn arc(self) -> u32
         requires { self.street < 2 ^ 31 }
