@@ -25,9 +25,6 @@ pub record KeepsTo (whole rule : List (List ℕ) → Bool) (line left : List ℕ
   pub same : (ps : List (List ℕ)) → whole (before ++ ps) ≡ rule ps
   pub size : length line ≡ length (spread before) + length left
 
-pub keeps-start : (whole : List (List ℕ) → Bool) (line : List ℕ) → KeepsTo whole whole line line
-keeps-start whole line = record { before = []; parts = refl; same = λ ps. refl; size = omega arith }
-
 pub keeps-more : (whole rule next : List (List ℕ) → Bool) (line left part others : List ℕ) → KeepsTo whole rule line left → parts_of left ≡ part ∷ parts_of others → length left ≡ length part + length others + 1 → ((ps : List (List ℕ)) → rule (part ∷ ps) ≡ next ps) → KeepsTo whole next line others
 keeps-more whole rule next line left part others h e size same = record {
   before = h.before ++ part ∷ [];
@@ -54,10 +51,6 @@ pub keeps-bad_one : (whole rule : List (List ℕ) → Bool) (line left part othe
     → rule ((first_half part ++ codes ":1") ∷ []) ≡ false → at ≡ length line - length left + 1 → IsFirstBad whole line at
 keeps-bad_one whole rule line left part others at h e none bad other where_at =
     keeps-bad whole rule line left part others 0 at h e none bad (sym (ap (λ b. cond b (length part - length (second_half part)) 0) other)) (omega (arith, where_at))
-
--- nothing is left: no number breaks a rule
-pub keeps-end : (whole rule : List (List ℕ) → Bool) (line left : List ℕ) → KeepsTo whole rule line left → left ≡ [] → rule [] ≡ true → whole (parts_of line) ≡ true
-keeps-end whole rule line left h e none = ap whole (h.parts ∙ ap (λ bytes. h.before ++ parts_of bytes) e) ∙ h.same [] ∙ none
 
 -- a number in its range
 pub then-good : (is_right : List ℕ → Bool) (rule : List (List ℕ) → Bool) (left number others : List ℕ) (at place : ℕ) → parts_of left ≡ number ∷ parts_of others → is_right number ≡ true → IsFirstBad rule others at → place ≡ 1 + length number + at → IsFirstBad (keeps_then is_right rule) left place
