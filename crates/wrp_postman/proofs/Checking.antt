@@ -1,5 +1,5 @@
 -- What is read and judged decides the status of a check.
-use Rattle.std.proofs.Common.{◌≡◌, ℕ, ◌≤◌, ◌<◌, ◌^◌, Bool, true, false, nat_lt, List, length, Option, None, Some, IfSome, Result, Ok, Err, refl, sym, ◌∙◌, ap, subst, arith}
+use Rattle.std.proofs.Common.{◌≡◌, ℕ, ◌≤◌, false, nat_lt, List, length, Option, None, Some, IfSome, Ok, sym, ap, subst}
 use Rattle.std.proofs.Math.Bool.{Bool-set}
 use Rattle.std.proofs.Math.Bridge.{le_prop}
 use Rattle.std.proofs.lemmas.Bool.{le-ltb}
@@ -7,14 +7,13 @@ use Rattle.wrp_out.specs.Told.{Tells}
 use Rattle.wrp_town.specs.declared.town.Town.{Town}
 use Rattle.wrp_town.specs.declared.street.Street.{Street}
 use Rattle.wrp_town.specs.Streets.{IsTown}
-use Rattle.wrp_street.specs.declared.table.TableFault.{TableFault}
 use Rattle.wrp_street.specs.Tables.{Table, table_of, table_in, IsTable}
 use Rattle.wrp_rules.specs.declared.record.End.{End}
 use Rattle.wrp_rules.specs.Proofs.{IsProof}
 use Rattle.wrp_laws.specs.Ends.{EndHolds}
 use Rattle.wrp_check.specs.Verdicts.{verdict}
 use Rattle.wrp_postman.specs.declared.status.Status.{Status}
-use Rattle.wrp_postman.specs.Runs.{AnswersVerdict, AnswersTable, AnswersLength, AnswersCheck, IsAccepted, table_bytes}
+use Rattle.wrp_postman.specs.Runs.{AnswersVerdict, AnswersCheck, IsAccepted, table_bytes}
 
 -- there is one proof at most that streets make a town
 town_once : (junctions : List (List ℕ)) (streets : List Street) → IsProp (IsTown junctions streets)

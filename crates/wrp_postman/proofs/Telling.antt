@@ -1,15 +1,15 @@
 -- What a status that was told says of the run.
-use Rattle.std.proofs.Common.{◌≡◌, ℕ, ◌⊎◌, inl, inr, Bool, true, false, nat_lt, List, length, Option, None, Some, IfSome, Result, Ok, Err, refl, sym, subst}
+use Rattle.std.proofs.Common.{ℕ, ◌⊎◌, inl, inr, Bool, true, false, nat_lt, List, length, Option, None, Some, IfSome, Result, Ok, Err, sym, subst}
 use Rattle.wrp_out.specs.Counts.{Rose}
 use Rattle.wrp_out.specs.Told.{Gained, GainedPrefix}
 use Rattle.wrp_town.specs.declared.town.Town.{Town}
 use Rattle.wrp_street.specs.declared.table.TableFault.{TableFault}
-use Rattle.wrp_street.specs.Tables.{Table, table_of, table_in}
+use Rattle.wrp_street.specs.Tables.{Table, table_of}
 use Rattle.wrp_rules.specs.declared.record.End.{End}
 use Rattle.wrp_check.specs.Verdicts.{Verdict, verdict}
 use Rattle.wrp_check.specs.Verdicts as verdicts
 use Rattle.wrp_postman.specs.declared.status.Status.{Status}
-use Rattle.wrp_postman.specs.declared.status.Status.TheVariants.{Optimal, Accepted, Done, Unfinished, Infeasible, ProofRefused, Usage, TableRefused, ReadFault, WriteFault, DiskFault, LogRefused, LogFull, TooLong, StopsRefused, BansRefused, Memory}
+use Rattle.wrp_postman.specs.declared.status.Status.TheVariants.{Accepted, WriteFault, Memory}
 use Rattle.wrp_postman.specs.Runs.{AnswersVerdict, AnswersTable, AnswersLength, AnswersCheck, IsOfCheck, after_fault, status_line, Told, IsWritten, table_bytes}
 
 -- want of memory answers every check

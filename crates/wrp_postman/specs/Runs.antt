@@ -1,5 +1,5 @@
 -- What a run of the program answers, and what it writes to its output.
-use Rattle.std.specs.Prelude.{◌≡◌, ℕ, ◌^◌, ◌<◌, ◌⊎◌, Bool, true, false, cond, if◌then◌else◌, nat_lt, List, [], ◌∷◌, ◌++◌, length, Option, None, Some, IfSome, Result, Ok, Err}
+use Rattle.std.specs.Prelude.{◌≡◌, ℕ, ◌^◌, ◌⊎◌, Bool, true, false, nat_lt, List, [], ◌∷◌, ◌++◌, length, Option, IfSome, Result, Ok, Err}
 use Rattle.wrp_out.specs.Counts.{Rose}
 use Rattle.wrp_out.specs.Told.{Gained, GainedPrefix}
 use Rattle.wrp_town.specs.declared.town.Town.{Town}
@@ -11,7 +11,7 @@ use Rattle.wrp_laws.specs.Ends.{EndHolds}
 use Rattle.wrp_check.specs.Verdicts.{Verdict, verdict}
 use Rattle.wrp_check.specs.Verdicts as verdicts
 use Rattle.wrp_postman.specs.declared.status.Status.{Status}
-use Rattle.wrp_postman.specs.declared.status.Status.TheVariants.{Optimal, Accepted, Done, Unfinished, Infeasible, ProofRefused, Usage, TableRefused, ReadFault, WriteFault, DiskFault, LogRefused, LogFull, TooLong, StopsRefused, BansRefused, Memory}
+use Rattle.wrp_postman.specs.declared.status.Status.TheVariants.{Accepted, ProofRefused, TableRefused, ReadFault, WriteFault, TooLong, Memory}
 use Rattle.wrp_postman.specs.Statuses.{status_text}
 
 -- the greatest number of bytes of a table

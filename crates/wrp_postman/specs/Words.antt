@@ -1,5 +1,5 @@
 -- The words of the command line, without the program's name.
-use Rattle.std.specs.Prelude.{ℕ, cond, if◌then◌else◌, codes, List, [], ◌∷◌, Option, None, Some}
+use Rattle.std.specs.Prelude.{ℕ, if◌then◌else◌, codes, List, [], ◌∷◌, Option, None, Some}
 use Rattle.std.specs.Str.{bytes_eq}
 use Rattle.wrp_postman.specs.declared.command.Names.{Names}
 use Rattle.wrp_postman.specs.declared.command.Names.TheVariants as names
