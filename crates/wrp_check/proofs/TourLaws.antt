@@ -1,5 +1,6 @@
 -- Laws of what the marks of arcs say of the demands of a street.
 use Rattle.std.proofs.Common.{◌≡◌, ℕ, ◌+◌, ◌*◌, ◌<◌, Bool, true, false, ◌&&◌, ◌||◌, ◌==◌, List, [], ◌∷◌, length, get_or, ap, refl, sym, ◌∙◌, subst, arith}
+use Rattle.std.proofs.Math.Bool.{and-true, or-false}
 use Rattle.std.proofs.lemmas.Bool.{false≢true}
 use Rattle.std.specs.List.{list_any, list_all}
 use Rattle.wrp_town.specs.declared.street.Step.{Step}
@@ -14,14 +15,6 @@ use Rattle.wrp_check.specs.Marks.{MarkArcs}
 abbrev pub drives : List Step → ℕ → Bool
 drives steps arc = list_any (λ step. arc_of step == arc) steps
 
-or_false : (a : Bool) → (a || false) ≡ a
-or_false true = refl
-or_false false = refl
-
-and_true : (a : Bool) → (a && true) ≡ a
-and_true true = refl
-and_true false = refl
-
 or_swap : (a b c d : Bool) → ((a || b) || (c || d)) ≡ ((a || c) || (b || d))
 or_swap true b c d = refl
 or_swap false true true d = refl
@@ -31,12 +24,12 @@ or_swap false false false d = refl
 
 pub serves-one : (steps : List Step) (arc : ℕ) → serves steps (arc ∷ []) ≡ drives steps arc
 serves-one [] arc = refl
-serves-one (step ∷ steps) arc = ap (λ b. b || serves steps (arc ∷ [])) (or_false (arc_of step == arc)) ∙ ap (λ b. (arc_of step == arc) || b) (serves-one steps arc)
+serves-one (step ∷ steps) arc = ap (λ b. b || serves steps (arc ∷ [])) (or-false (arc_of step == arc)) ∙ ap (λ b. (arc_of step == arc) || b) (serves-one steps arc)
 
 pub serves-two : (steps : List Step) (a b : ℕ) → serves steps (a ∷ b ∷ []) ≡ (drives steps a || drives steps b)
 serves-two [] a b = refl
 serves-two (step ∷ steps) a b =
-    ap (λ x. ((arc_of step == a) || x) || serves steps (a ∷ b ∷ [])) (or_false (arc_of step == b))
+    ap (λ x. ((arc_of step == a) || x) || serves steps (a ∷ b ∷ [])) (or-false (arc_of step == b))
     ∙ ap (λ x. ((arc_of step == a) || (arc_of step == b)) || x) (serves-two steps a b)
     ∙ or_swap (arc_of step == a) (arc_of step == b) (drives steps a) (drives steps b)
 
@@ -50,11 +43,11 @@ meets Both forward backward = forward && backward
 
 driven_meets : (steps : List Step) (street : ℕ) (need : Need) → list_all (serves steps) (demands_at street need) ≡ meets need (drives steps (2 * street)) (drives steps (2 * street + 1))
 driven_meets steps street No = refl
-driven_meets steps street Either = and_true _ ∙ serves-two steps (2 * street) (2 * street + 1)
-driven_meets steps street Forward = and_true _ ∙ serves-one steps (2 * street)
-driven_meets steps street Backward = and_true _ ∙ serves-one steps (2 * street + 1)
+driven_meets steps street Either = and-true _ ∙ serves-two steps (2 * street) (2 * street + 1)
+driven_meets steps street Forward = and-true _ ∙ serves-one steps (2 * street)
+driven_meets steps street Backward = and-true _ ∙ serves-one steps (2 * street + 1)
 driven_meets steps street Both =
-    ap (λ b. serves steps (2 * street ∷ []) && b) (and_true _)
+    ap (λ b. serves steps (2 * street ∷ []) && b) (and-true _)
     ∙ ap (λ b. b && serves steps ((2 * street + 1) ∷ [])) (serves-one steps (2 * street))
     ∙ ap (λ b. drives steps (2 * street) && b) (serves-one steps (2 * street + 1))
 

@@ -1,5 +1,6 @@
 -- The longest front of a whole line of a record.
 use Rattle.std.proofs.Common.{codes, length, ◌==◌, ◌||◌, arith, Option, Some, None, IfSome, is_some, ◌≡◌, ℕ, ◌+◌, suc, Bool, true, false, ◌&&◌, List, [], ◌∷◌, refl, sym, ap, ◌∙◌, subst}
+use Rattle.std.proofs.Math.Bool.{and-false}
 use Rattle.std.proofs.lemmas.Bool.{eqb-true, false≢true}
 use Rattle.std.specs.List.{list_any}
 use Rattle.wrp_lines.specs.Fronts.{IsLongestFront, is_left}
@@ -31,10 +32,6 @@ letter-front number letter left made before after e h same behind =
 -- no line of a record begins with the letter
 pub no-letter : (letter : ℕ) (left : List ℕ) → ((ps : List (List ℕ)) → has_parts_shape letter ps ≡ false) → IsLongestFront has_shape (letter ∷ left) 0
 no-letter letter left never = front-stop has_shape (111 ∷ []) letter left refl (λ t. ap (λ b. is_spaced t && b) (never (parts_of t)) ∙ and-false (is_spaced t))
-  where
-    and-false : (a : Bool) → (a && false) ≡ false
-    and-false true = refl
-    and-false false = refl
 
 -- each byte of a list is in P
 abbrev Every : (ℕ → Type 0) → List ℕ → Type 0

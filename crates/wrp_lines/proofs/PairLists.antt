@@ -1,5 +1,6 @@
 -- Lists of pairs, and the parts that spell them.
 use Rattle.std.proofs.Common.{arith, false, Some, None, ◌≡◌, ℕ, ◌+◌, ◌-◌, ◌<◌, ◌≤◌, ◌^◌, Bool, true, cond, ◌&&◌, not, ◌==◌, nat_lt, nat_le, List, [], ◌∷◌, map, length, refl, sym, ap, ◌∙◌}
+use Rattle.std.proofs.Math.Bool.{and-true}
 use Rattle.std.proofs.lemmas.Bool.{and_left, and_parts, and_from, ltb-true, leb-true, lt-ltb, le-leb}
 use Rattle.std.proofs.lemmas.List.{length-map}
 use Rattle.std.proofs.lemmas.List.Folds.{list_all-append}
@@ -170,11 +171,7 @@ few-parts [] = omega arith
 few-parts (space ∷ bytes) = omega (arith, length-slice_split is_space bytes, count_by-le-length is_space bytes)
 
 pub few_pairs : (most : ℕ) (left : List ℕ) → (are_pair_parts most (parts_of left) && nat_le (length (parts_of left)) (length left)) ≡ are_pair_parts most (parts_of left)
-few_pairs most left = rw (le-leb (length (parts_of left)) (length left) (few-parts left)) (drop_true (are_pair_parts most (parts_of left)))
-  where
-    drop_true : (b : Bool) → (b && true) ≡ b
-    drop_true true = refl
-    drop_true false = refl
+few_pairs most left = rw (le-leb (length (parts_of left)) (length left) (few-parts left)) (and-true (are_pair_parts most (parts_of left)))
 
 -- pairs in a range are pairs in a greater one
 widened : (most wide : ℕ) (part : List ℕ) → most ≤ wide → is_pair most part ≡ true → is_pair wide part ≡ true

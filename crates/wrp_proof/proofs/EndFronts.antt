@@ -1,5 +1,6 @@
 -- The longest front of an end line.
 use Rattle.std.proofs.Common.{inl, inr, arith, codes, ◌≡◌, ℕ, ◌+◌, ◌<◌, ◌≤◌, zero, suc, max, Bool, true, false, cond, ◌&&◌, ◌||◌, ◌==◌, get_or, List, [], ◌∷◌, ◌++◌, length, take, drop, refl, sym, ap, ◌∙◌, subst}
+use Rattle.std.proofs.Math.Bool.{or-true}
 use Rattle.std.proofs.lemmas.Bool.{and_parts, and_from, cases_Bool, cases_lt, eqb-true, eq-eqb, ne_eqb, false≢true}
 use Rattle.std.proofs.lemmas.List.{append-nil}
 use Rattle.std.proofs.lemmas.Slice.Eq.{bytes_eq-Decides}
@@ -99,10 +100,6 @@ front-or one two text m n place h k e = elim (cases_lt m n) [
       }) (omega arith)
 ]
   where
-    or-true : (a : Bool) → (a || true) ≡ true
-    or-true true = refl
-    or-true false = refl
-
     either : (a b : Bool) → (a || b) ≡ true → (i at : ℕ) → (a ≡ true → i ≤ at) → (b ≡ true → i ≤ at) → i ≤ at
     either true b e i at f g = f refl
     either false b e i at f g = g e
