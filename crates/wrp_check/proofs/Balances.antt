@@ -20,7 +20,7 @@ pub record Grown (arcs arc : ℕ) (z : ℤ) (old new : SparseRow) : Type 0 where
   pub coef : (a : ℕ) → coef_at new.terms a ≡ coef_at old.terms a +ℤ cond (arc == a) z (pos 0)
   pub few : length new.terms ≤ length old.terms + 1
   pub terms : All (IsSmallTerm arcs) old.terms → All (IsSmallTerm arcs) new.terms
-  pub side : new.side ≡ old.side
+  pub right_side : new.right_side ≡ old.right_side
 
 -- a term more
 grown_by_term : (arcs arc : ℕ) (z : ℤ) (row : SparseRow) → arc < arcs → unsigned_abs z ≤ 1048576 → Grown arcs arc z row (with_term row (arc, z))
@@ -28,7 +28,7 @@ grown_by_term arcs arc z row below small = record {
   coef = λ a. sum_over-push (λ t. cond (t.0 == a) t.1 (pos 0)) row.terms (arc, z);
   few = omega (arith, length-append row.terms ((arc, z) ∷ []));
   terms = λ all. All-push (IsSmallTerm arcs) row.terms (arc, z) all (below, small);
-  side = refl;
+  right_side = refl;
 }
 
 no_growth : (arcs arc : ℕ) (row : SparseRow) → Grown arcs arc (pos 0) row row
@@ -36,7 +36,7 @@ no_growth arcs arc row = record {
   coef = λ a. by (arc == a) (coef_at row.terms a);
   few = omega arith;
   terms = λ all. all;
-  side = refl;
+  right_side = refl;
 }
   where
     by : (t : Bool) (x : ℤ) → x ≡ x +ℤ cond t (pos 0) (pos 0)
@@ -87,7 +87,7 @@ module _ (town : Town) (n j : ℕ) (old mid new : SparseRow) (x y : ℤ) where
     coef = coef_step before first second sum;
     few = omega (arith, before.few, first.few, second.few);
     terms = second.terms (first.terms before.terms);
-    side = second.side ∙ first.side ∙ before.side;
+    right_side = second.right_side ∙ first.right_side ∙ before.right_side;
   }
 
 -- leaving adds 1 and entering takes 1 away

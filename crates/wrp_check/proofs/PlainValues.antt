@@ -36,9 +36,9 @@ no_least_term z lo hi plain bare =
     ap (λ (t : Bool). z *ℤ pos (cond t hi lo)) test ∙ ap (λ (n : ℕ). z *ℤ pos n) bare ∙ times_zero z
 
 module _ (town : Town) (rows : List Row) (node : Node) (den : ℕ) (mult : List (ℕ × ℕ)) where
-  plain_dual_value : is_plain town rows node den mult ≡ true → ((arc : ℕ) → node.lo arc ≡ 0) → dual_value (program town rows node) den mult ≡ sum_over (λ q. pos q.1 *ℤ (row_at rows q.0).side) mult
+  plain_dual_value : is_plain town rows node den mult ≡ true → ((arc : ℕ) → node.lo arc ≡ 0) → dual_value (program town rows node) den mult ≡ sum_over (λ q. pos q.1 *ℤ (row_at rows q.0).right_side) mult
   plain_dual_value plain bare =
-      let sides = sum_over (λ (q : ℕ × ℕ). pos q.1 *ℤ (row_at rows q.0).side) mult in
+      let sides = sum_over (λ (q : ℕ × ℕ). pos q.1 *ℤ (row_at rows q.0).right_side) mult in
       ap (λ (z : ℤ). sides +ℤ z)
       (sum_over-all_zero (λ arc. least_term (reduced_cost (program town rows node) den mult arc) (node.lo arc) (node.hi arc)) (legal_arcs town)
       (λ arc inside. no_least_term (reduced_cost (program town rows node) den mult arc) (node.lo arc) (node.hi arc)

@@ -43,8 +43,8 @@ balance_is_row town j row is = record {
   coef = λ arc legal.
       let below : nat_lt arc (2 * length town.streets) ≡ true = let h = legal_below town arc legal in grind (arith, nat_tests) in
       is.coef arc legal ∙ ap (λ (t : Bool). if t then (balance_row town j).coef arc else pos 0) below;
-  side = is.side;
-  small = record { few = omega (arith, is.few, few_streets town); terms = is.terms; side = rw is.side (omega arith) };
+  right_side = is.right_side;
+  small = record { few = omega (arith, is.few, few_streets town); terms = is.terms; right_side = rw is.right_side (omega arith) };
 }
 
 balances_are_rows : (town : Town) (rows : List SparseRow) → AreBalancesBelow town (2 * length town.streets) rows → AllZip (IsRow town) rows (map (balance_row town) (junctions town))
@@ -118,12 +118,12 @@ service_is_row town demand is = record {
       ∙ sum_over-count (λ x. x == arc) (filter (is_legal town) demand)
       ∙ ap pos (count_by-filter arc (is_legal town) demand ∙ ap (λ (t : Bool). cond t (count_by (λ x. x == arc) demand) 0) legal)
       ∙ member_count arc demand is.distinct;
-  side = refl;
+  right_side = refl;
   small = record {
     few = omega (arith, is.few, length-map {B = ℕ × ℤ} (filter (is_legal town) demand) (λ a. (a, pos 1)), length-filter (is_legal town) demand, count_by-le-length (is_legal town) demand);
     terms = All-map (IsSmallTerm (2 * length town.streets)) (λ a. (a, pos 1)) (filter (is_legal town) demand)
         (All-weaker (λ a. is_legal town a ≡ true) (λ a. IsSmallTerm (2 * length town.streets) (a, pos 1)) (λ a legal. (legal_below town a legal, omega arith)) (filter (is_legal town) demand) (filter_passes (is_legal town) demand));
-    side = omega arith;
+    right_side = omega arith;
   };
 }
 

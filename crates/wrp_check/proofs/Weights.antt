@@ -53,7 +53,7 @@ weighted_coef_held town pool rows (q ∷ mult) arc holds are legal =
       weighted_coef_held town pool rows mult arc holds first.1 legal,
     )
 
-pub weighted_side_held : (town : Town) (pool : Pool) (rows : List Row) (mult : List (ℕ × ℕ)) → Holds town pool rows → has_rows pool mult ≡ true → weighted_side pool mult ≡ sum_over (λ q. pos q.1 *ℤ (row_at rows q.0).side) mult
+pub weighted_side_held : (town : Town) (pool : Pool) (rows : List Row) (mult : List (ℕ × ℕ)) → Holds town pool rows → has_rows pool mult ≡ true → weighted_side pool mult ≡ sum_over (λ q. pos q.1 *ℤ (row_at rows q.0).right_side) mult
 weighted_side_held town pool rows [] holds are = refl
 weighted_side_held town pool rows (q ∷ mult) holds are =
     let first = first_row pool q mult are in
@@ -61,7 +61,7 @@ weighted_side_held town pool rows (q ∷ mult) holds are =
     omega (
       arith,
       linear,
-      ap (λ (z : ℤ). pos q.1 *ℤ z) row.side,
+      ap (λ (z : ℤ). pos q.1 *ℤ z) row.right_side,
       weighted_side_held town pool rows mult holds first.1,
     )
 

@@ -20,12 +20,12 @@ IsSmallTerm arcs term = (term.0 < arcs) × (unsigned_abs term.1 ≤ 1048576)
 pub record IsSmallRow (arcs : ℕ) (row : SparseRow) : Type 0 where
   pub few : length row.terms ≤ 16384
   pub terms : All (IsSmallTerm arcs) row.terms
-  pub side : unsigned_abs row.side ≤ 1048576
+  pub right_side : unsigned_abs row.right_side ≤ 1048576
 
 -- the sparse row says of each legal arc what the row says
 pub record IsRow (town : Town) (sparse : SparseRow) (row : Row) : Type 0 where
   pub coef : (arc : ℕ) → is_legal town arc ≡ true → coef_at sparse.terms arc ≡ row.coef arc
-  pub side : sparse.side ≡ row.side
+  pub right_side : sparse.right_side ≡ row.right_side
   pub small : IsSmallRow (2 * length town.streets) sparse
 
 -- the pool has these rows, in this order
@@ -34,7 +34,7 @@ Holds town pool rows = AllZip (IsRow town) pool.rows rows
 
 -- the sparse row of this number; 0 at least 0 where there is none
 abbrev pub sparse_at : Pool → ℕ → SparseRow
-sparse_at pool i = slice_index_or pool.rows i (record { terms = []; side = pos 0 })
+sparse_at pool i = slice_index_or pool.rows i (record { terms = []; right_side = pos 0 })
 
 -- the pool has the row of each pair
 abbrev pub has_rows : Pool → List (ℕ × ℕ) → Bool
@@ -45,7 +45,7 @@ abbrev pub weighted_coef : Pool → List (ℕ × ℕ) → ℕ → ℤ
 weighted_coef pool mult arc = sum_over (λ q. pos q.1 *ℤ coef_at (sparse_at pool q.0).terms arc) mult
 
 abbrev pub weighted_side : Pool → List (ℕ × ℕ) → ℤ
-weighted_side pool mult = sum_over (λ q. pos q.1 *ℤ (sparse_at pool q.0).side) mult
+weighted_side pool mult = sum_over (λ q. pos q.1 *ℤ (sparse_at pool q.0).right_side) mult
 
 -- each legal arc costs, times the denominator, at least what the table has for it
 abbrev pub covers : Town → ℕ → List ℤ → Bool

@@ -10,22 +10,22 @@ use Rattle.wrp_check.specs.Pools.{IsSmallTerm}
 
 -- no terms, at least 0
 abbrev pub bare_row : SparseRow
-bare_row = record { terms = []; side = pos 0 }
+bare_row = record { terms = []; right_side = pos 0 }
 
 -- the row with one term more
 abbrev pub with_term : SparseRow → ℕ × ℤ → SparseRow
-with_term row term = record { terms = row.terms ++ term ∷ []; side = row.side }
+with_term row term = record { terms = row.terms ++ term ∷ []; right_side = row.right_side }
 
 -- the row of a demand: 1 on its legal arcs, at least 1
 abbrev pub sparse_service : Town → List ℕ → SparseRow
-sparse_service town demand = record { terms = map (λ arc. (arc, pos 1)) (filter (is_legal town) demand); side = pos 1 }
+sparse_service town demand = record { terms = map (λ arc. (arc, pos 1)) (filter (is_legal town) demand); right_side = pos 1 }
 
 -- the balance row of junction j, of whose coefficients those below arc n are in
 pub record IsBalanceBelow (town : Town) (n j : ℕ) (row : SparseRow) : Type 0 where
   pub coef : (arc : ℕ) → is_legal town arc ≡ true → coef_at row.terms arc ≡ (if nat_lt arc n then (balance_row town j).coef arc else pos 0)
   pub few : length row.terms ≤ 2 * n
   pub terms : All (IsSmallTerm (2 * length town.streets)) row.terms
-  pub side : row.side ≡ pos 0
+  pub right_side : row.right_side ≡ pos 0
 
 -- one such row for each junction
 pub record AreBalancesBelow (town : Town) (n : ℕ) (rows : List SparseRow) : Type 0 where

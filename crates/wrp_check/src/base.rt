@@ -36,7 +36,7 @@ fn bare_rows(alloc: Global, count: usize) -> Result<Vec<SparseRow>, AllocError>
     for _ in 0..count {
         rows.push(SparseRow {
             terms: List::new(alloc),
-            side: 0,
+            right_side: 0,
         })?;
     }
     Ok(rows)
@@ -128,7 +128,7 @@ fn push_service(
     ensures { OnOk result (rows.new.items ≡ rows.old.items ++ sparse_service town.now demand.now ∷ []) }
 {
     let terms = service_terms(alloc, town, demand)?;
-    rows.push(SparseRow { terms, side: 1 })?;
+    rows.push(SparseRow { terms, right_side: 1 })?;
     Ok(())
 }
 

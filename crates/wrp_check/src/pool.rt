@@ -12,7 +12,7 @@ use wrp_town::List;
 #[derive(Debug, Drop)]
 pub(crate) struct SparseRow {
     pub(crate) terms: List<(u32, i64)>,
-    pub(crate) side: i64,
+    pub(crate) right_side: i64,
 }
 
 /// The rows that stand, those of the cuts last.
@@ -47,12 +47,12 @@ impl Pool {
             ≡ slice_index_or left.old arc (pos 0) +ℤ pos weight *ℤ coef_at (sparse_at self.now row).terms arc }
         ensures size { (arc : ℕ) → unsigned_abs (slice_index_or left.new arc (pos 0))
             ≤ unsigned_abs (slice_index_or left.old arc (pos 0)) + 2 ^ 94 }
-        ensures side { result ≡ pos weight *ℤ (sparse_at self.now row).side }
+        ensures side { result ≡ pos weight *ℤ (sparse_at self.now row).right_side }
         ensures side_size { unsigned_abs result ≤ 2 ^ 80 }
     {
         let row = self.row(row);
         add_terms(row.terms.as_slice(), weight, left);
-        share(weight, row.side)
+        share(weight, row.right_side)
     }
 }
 

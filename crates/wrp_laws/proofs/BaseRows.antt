@@ -102,7 +102,7 @@ meets_at town steps rows i all =
     (λ (past : length rows ≤ i). subst (MeetsRow town steps) (sym (get_or_past rows i _ past)) nothing)
     (cases_lt i (length rows))
   where
-    nothing : MeetsRow town steps (record { coef = λ arc. pos 0; side = pos 0 })
+    nothing : MeetsRow town steps (record { coef = λ arc. pos 0; right_side = pos 0 })
     nothing = subst (λ (z : ℤ). pos 0 ≤ℤ z) (sym (sum_over-all_zero (λ arc. pos 0 *ℤ pos (count_of steps arc)) (legal_arcs town) (λ arc inside. omega (arith, ints)))) (at_most_refl (pos 0))
 
 pub meets_base_row : (town : Town) (steps : List Step) (i : ℕ) → is_tour town steps ≡ true → MeetsRow town steps (row_at (base_rows town) i)

@@ -32,7 +32,7 @@ pub solves : (town : Town) (rows : List Row) (node : Node) (mult : List (ℕ × 
 solves town rows node mult steps meets within = record {
   at_least = λ arc inside. let low = within.at_least arc inside in omega arith;
   at_most = λ arc inside. let high = within.at_most arc inside in omega arith;
-  meets = λ q inside. subst (λ (z : ℤ). z ≤ℤ sum_of_uses town steps (row_at rows q.0).coef) (sym (one-*ℤ (row_at rows q.0).side)) (meets q.0);
+  meets = λ q inside. subst (λ (z : ℤ). z ≤ℤ sum_of_uses town steps (row_at rows q.0).coef) (sym (one-*ℤ (row_at rows q.0).right_side)) (meets q.0);
 }
 
 -- so it costs at least the node's bound
@@ -59,7 +59,7 @@ widened steps node = record node { hi = count_of steps }
 
 value_widened : (town : Town) (rows : List Row) (node : Node) (den : ℕ) (mult : List (ℕ × ℕ)) (steps : List Step) → is_plain town rows node den mult ≡ true → bound_value town rows node den mult ≡ bound_value town rows (widened steps node) den mult
 value_widened town rows node den mult steps plain =
-    ap (λ (z : ℤ). ceil_div (sum_over (λ q. pos q.1 *ℤ (row_at rows q.0).side) mult +ℤ z) den)
+    ap (λ (z : ℤ). ceil_div (sum_over (λ q. pos q.1 *ℤ (row_at rows q.0).right_side) mult +ℤ z) den)
     (sum_over-same
     (λ arc. least_term (reduced_cost (program town rows node) den mult arc) (node.lo arc) (node.hi arc))
     (λ arc. least_term (reduced_cost (program town rows node) den mult arc) (node.lo arc) (count_of steps arc))

@@ -44,13 +44,13 @@ rounding_proves_the_same = (refl, refl)
 -- the first rounding asks for arc 1 alone, once
 pub first_rounding_asks_for_arc_1 :
     (map (row_at (standing windy_street rounded_list).rows 3).coef (0 ∷ 1 ∷ []) ≡ pos 0 ∷ pos 1 ∷ [])
-    × ((row_at (standing windy_street rounded_list).rows 3).side ≡ pos 1)
+    × ((row_at (standing windy_street rounded_list).rows 3).right_side ≡ pos 1)
 first_rounding_asks_for_arc_1 = (refl, refl)
 
 -- and the second for arc 0
 pub second_rounding_asks_for_arc_0 :
     (map (row_at (standing windy_street rounded_list).rows 4).coef (0 ∷ 1 ∷ []) ≡ pos 1 ∷ pos 0 ∷ [])
-    × ((row_at (standing windy_street rounded_list).rows 4).side ≡ pos 1)
+    × ((row_at (standing windy_street rounded_list).rows 4).right_side ≡ pos 1)
 second_rounding_asks_for_arc_0 = (refl, refl)
 
 -- no arc leads to a higher label, and the street between the labels is required
@@ -106,7 +106,7 @@ pub chain_cut_bounds :
 chain_cut_bounds = (refl, refl)
 
 -- and the right side of that cut is the least cost
-pub chain_cut_has_side_6 : (kc_row chained_parts 3 (0 ∷ 3 ∷ 1 ∷ 2 ∷ [])).side ≡ pos 6
+pub chain_cut_has_side_6 : (kc_row chained_parts 3 (0 ∷ 3 ∷ 1 ∷ 2 ∷ [])).right_side ≡ pos 6
 chain_cut_has_side_6 = refl
 
 -- a ring is bounded by its demands alone
@@ -200,5 +200,5 @@ pub side_cuts_bound_the_grid : IsAccepted grid grid_list (Optimal 16)
 side_cuts_bound_the_grid = (refl, refl)
 
 -- each of these cuts is crossed four times
-pub side_cuts_have_side_4 : map (λ i. (row_at (standing grid grid_list).rows i).side) (21 ∷ 22 ∷ 23 ∷ 24 ∷ []) ≡ pos 4 ∷ pos 4 ∷ pos 4 ∷ pos 4 ∷ []
+pub side_cuts_have_side_4 : map (λ i. (row_at (standing grid grid_list).rows i).right_side) (21 ∷ 22 ∷ 23 ∷ 24 ∷ []) ≡ pos 4 ∷ pos 4 ∷ pos 4 ∷ pos 4 ∷ []
 side_cuts_have_side_4 = refl

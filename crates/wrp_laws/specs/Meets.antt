@@ -13,4 +13,4 @@ sum_of_uses town steps f = sum_over (λ arc. f arc *ℤ pos (count_of steps arc)
 
 -- the counts of the steps meet the row
 abbrev pub MeetsRow : Town → List Step → Row → Type 0
-MeetsRow town steps row = row.side ≤ℤ sum_of_uses town steps row.coef
+MeetsRow town steps row = row.right_side ≤ℤ sum_of_uses town steps row.coef

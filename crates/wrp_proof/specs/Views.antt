@@ -37,18 +37,10 @@ abbrev pub are_narrow : List (ℕ × ℕ) → Bool
 are_narrow mult = list_all (λ q. nat_lt q.1 (2 ^ 64)) mult
 
 abbrev pub has_narrow_multipliers : Record → Bool
-has_narrow_multipliers (Tour cost steps) = true
-has_narrow_multipliers (Conn r1 r2 set) = true
-has_narrow_multipliers (Odd set) = true
 has_narrow_multipliers (Round divisor mult) = are_narrow mult
-has_narrow_multipliers (Kc k of) = true
 has_narrow_multipliers (Bound node den mult) = are_narrow mult
 has_narrow_multipliers (Empty node mult) = are_narrow mult
-has_narrow_multipliers (Apart node r1 r2 set) = true
-has_narrow_multipliers (Point node den numbers) = true
-has_narrow_multipliers (Blind node) = true
-has_narrow_multipliers (Split node arc k) = true
-has_narrow_multipliers (Labels labels streets) = true
+has_narrow_multipliers item = true
 
 -- the letter is that of a record which is neither a tour nor a bound
 abbrev pub is_later_letter : ℕ → Bool

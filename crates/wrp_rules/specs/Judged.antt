@@ -5,7 +5,7 @@ use Rattle.wrp_sums.specs.Duality.{reduced_cost}
 use Rattle.wrp_town.specs.declared.town.Town.{Town}
 use Rattle.wrp_town.specs.Arcs.{legal_arcs}
 use Rattle.wrp_rules.specs.declared.record.Record.{Record}
-use Rattle.wrp_rules.specs.declared.record.Record.TheVariants.{Tour, Conn, Odd, Round, Kc, Bound, Empty, Apart, Point, Blind, Split, Labels}
+use Rattle.wrp_rules.specs.declared.record.Record.TheVariants.{Tour, Bound}
 use Rattle.wrp_rules.specs.declared.rule.Rule.{Rule}
 use Rattle.wrp_rules.specs.declared.rule.Rule.TheVariants as rules
 use Rattle.wrp_rules.specs.Nodes.{Standing, start, after, node_at, program, bound_value}
@@ -17,17 +17,8 @@ has_plain_costs town s node den mult = list_all (λ arc. int_le (pos 0) (reduced
 
 abbrev pub is_judged : Town → Standing → Record → Bool
 is_judged town s (Tour cost steps) = true
-is_judged town s (Conn r1 r2 set) = false
-is_judged town s (Odd set) = false
-is_judged town s (Round divisor mult) = false
-is_judged town s (Kc k of) = false
 is_judged town s (Bound node den mult) = has_plain_costs town s node den mult
-is_judged town s (Empty node mult) = false
-is_judged town s (Apart node r1 r2 set) = false
-is_judged town s (Point node den numbers) = false
-is_judged town s (Blind node) = false
-is_judged town s (Split node arc k) = false
-is_judged town s (Labels labels streets) = false
+is_judged town s item = false
 
 -- each of these records is judged, after those that stand and those before it
 abbrev pub go_on_judged : Town → Standing → List Record → Bool
@@ -40,22 +31,12 @@ are_judged town records = go_on_judged town (start town) records
 
 -- the rules of a record as the checker tries them so far: `Later` stands before `Low`
 abbrev pub judged_rules_of : Town → Standing → Record → List (Rule × Bool)
-judged_rules_of town s (Tour cost steps) = rules_of town s (Tour cost steps)
-judged_rules_of town s (Conn r1 r2 set) = rules_of town s (Conn r1 r2 set)
-judged_rules_of town s (Odd set) = rules_of town s (Odd set)
-judged_rules_of town s (Round divisor mult) = rules_of town s (Round divisor mult)
-judged_rules_of town s (Kc k of) = rules_of town s (Kc k of)
 judged_rules_of town s (Bound node den mult) =
     (rules.Range, node_is_there s node && rows_are_there s mult)
     ∷ (rules.Closed, node_is_open town s node)
     ∷ (rules.Later, has_plain_costs town s node den mult)
     ∷ (rules.Low, int_lt (node_at town s node).bound (bound_value town s.rows (node_at town s node) den mult)) ∷ []
-judged_rules_of town s (Empty node mult) = rules_of town s (Empty node mult)
-judged_rules_of town s (Apart node r1 r2 set) = rules_of town s (Apart node r1 r2 set)
-judged_rules_of town s (Point node den numbers) = rules_of town s (Point node den numbers)
-judged_rules_of town s (Blind node) = rules_of town s (Blind node)
-judged_rules_of town s (Split node arc k) = rules_of town s (Split node arc k)
-judged_rules_of town s (Labels labels streets) = rules_of town s (Labels labels streets)
+judged_rules_of town s item = rules_of town s item
 
 -- the first of these that a record breaks
 abbrev pub judged_rule : Town → Standing → Record → Option Rule

@@ -8,7 +8,7 @@ use Rattle.wrp_sums.specs.Duality.{Program, dual_value}
 use Rattle.wrp_town.specs.declared.town.Town.{Town}
 use Rattle.wrp_town.specs.Arcs.{legal_arcs, cost_or_zero, demands}
 use Rattle.wrp_rules.specs.declared.record.Record.{Record}
-use Rattle.wrp_rules.specs.declared.record.Record.TheVariants.{Tour, Conn, Odd, Round, Kc, Bound, Empty, Apart, Point, Blind, Split, Labels}
+use Rattle.wrp_rules.specs.declared.record.Record.TheVariants.{Tour, Bound, Empty, Apart, Split}
 use Rattle.wrp_rules.specs.Rows.{Row, base_rows, row_at, row_of}
 
 -- a part of the search: the least and the greatest number of uses of each arc, and a bound of each tour within;
@@ -42,7 +42,7 @@ abbrev pub program : Town → List Row → Node → Program
 program town rows node = record {
   arcs = legal_arcs town;
   coef = λ i. (row_at rows i).coef;
-  side = λ i. (row_at rows i).side;
+  right_side = λ i. (row_at rows i).right_side;
   cost = cost_or_zero town;
   lo = node.lo;
   hi = node.hi;
@@ -53,7 +53,7 @@ abbrev pub free_program : Town → List Row → Node → Program
 free_program town rows node = record {
   arcs = legal_arcs town;
   coef = λ i. (row_at rows i).coef;
-  side = λ i. (row_at rows i).side;
+  right_side = λ i. (row_at rows i).right_side;
   cost = λ arc. 0;
   lo = node.lo;
   hi = node.hi;
@@ -93,34 +93,17 @@ changed change (suc i) (node ∷ nodes) = node ∷ changed change i nodes
 
 -- the nodes after one more record
 abbrev pub nodes_after : Town → Standing → Record → List Node
-nodes_after town s (Tour cost steps) = s.nodes
-nodes_after town s (Conn r1 r2 set) = s.nodes
-nodes_after town s (Odd set) = s.nodes
-nodes_after town s (Round divisor mult) = s.nodes
-nodes_after town s (Kc k of) = s.nodes
 nodes_after town s (Bound node den mult) = changed (with_bound (bound_value town s.rows (node_at town s node) den mult)) node s.nodes
 nodes_after town s (Empty node mult) = changed closed node s.nodes
 nodes_after town s (Apart node r1 r2 set) = changed closed node s.nodes
-nodes_after town s (Point node den numbers) = s.nodes
-nodes_after town s (Blind node) = s.nodes
 nodes_after town s (Split node arc k) =
     changed closed node s.nodes ++ at_most arc k (node_at town s node) ∷ at_least arc (k + 1) (node_at town s node) ∷ []
-nodes_after town s (Labels labels streets) = s.nodes
+nodes_after town s item = s.nodes
 
 -- the cost of the cheapest tour after one more record
 abbrev pub upper_after : Option ℕ → Record → Option ℕ
 upper_after upper (Tour cost steps) = Some (option_map_or (min cost) upper cost)
-upper_after upper (Conn r1 r2 set) = upper
-upper_after upper (Odd set) = upper
-upper_after upper (Round divisor mult) = upper
-upper_after upper (Kc k of) = upper
-upper_after upper (Bound node den mult) = upper
-upper_after upper (Empty node mult) = upper
-upper_after upper (Apart node r1 r2 set) = upper
-upper_after upper (Point node den numbers) = upper
-upper_after upper (Blind node) = upper
-upper_after upper (Split node arc k) = upper
-upper_after upper (Labels labels streets) = upper
+upper_after upper item = upper
 
 -- what stands after one more record
 abbrev pub after : Town → Standing → Record → Standing

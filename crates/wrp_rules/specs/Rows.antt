@@ -8,13 +8,13 @@ use Rattle.wrp_town.specs.declared.town.Town.{Town}
 use Rattle.wrp_town.specs.Streets.{forward_arc}
 use Rattle.wrp_town.specs.Arcs.{tail_of, head_of, legal_arcs, junctions, demands, has_arc, is_required}
 use Rattle.wrp_rules.specs.declared.record.Record.{Record}
-use Rattle.wrp_rules.specs.declared.record.Record.TheVariants.{Tour, Conn, Odd, Round, Kc, Bound, Empty, Apart, Point, Blind, Split, Labels}
+use Rattle.wrp_rules.specs.declared.record.Record.TheVariants.{Conn, Odd, Round, Kc}
 use Rattle.wrp_rules.specs.Sets.{leaves, crosses, crossing_demands, arc_at}
 
 -- the sum over legal arcs of coefficient times number is at least the right side
 pub record Row : Type 0 where
   pub coef : ℕ → ℤ
-  pub side : ℤ
+  pub right_side : ℤ
 
 -- 1 where the test holds, else 0
 abbrev pub one_if : Bool → ℤ
@@ -22,11 +22,11 @@ one_if test = if test then pos 1 else pos 0
 
 -- leaving minus entering at a junction
 abbrev pub balance_row : Town → ℕ → Row
-balance_row town j = record { coef = λ arc. one_if (tail_of town arc == j) -ℤ one_if (head_of town arc == j); side = pos 0 }
+balance_row town j = record { coef = λ arc. one_if (tail_of town arc == j) -ℤ one_if (head_of town arc == j); right_side = pos 0 }
 
 -- the arcs of a demand
 abbrev pub service_row : List ℕ → Row
-service_row demand = record { coef = λ arc. one_if (has_arc demand arc); side = pos 1 }
+service_row demand = record { coef = λ arc. one_if (has_arc demand arc); right_side = pos 1 }
 
 -- the rows before any cut: one for each junction, then one for each demand
 abbrev pub base_rows : Town → List Row
@@ -34,21 +34,21 @@ base_rows town = map (balance_row town) (junctions town) ++ map service_row (dem
 
 -- the row of this number; 0 at least 0 where there is none
 abbrev pub row_at : List Row → ℕ → Row
-row_at rows i = slice_index_or rows i (record { coef = λ arc. pos 0; side = pos 0 })
+row_at rows i = slice_index_or rows i (record { coef = λ arc. pos 0; right_side = pos 0 })
 
 -- the arcs that leave the set
 abbrev pub conn_row : Town → List ℕ → Row
-conn_row town set = record { coef = λ arc. one_if (leaves town set arc); side = pos 1 }
+conn_row town set = record { coef = λ arc. one_if (leaves town set arc); right_side = pos 1 }
 
 -- the arcs that cross the set
 abbrev pub odd_row : Town → List ℕ → Row
-odd_row town set = record { coef = λ arc. one_if (crosses town set arc); side = pos (crossing_demands town set + 1) }
+odd_row town set = record { coef = λ arc. one_if (crosses town set arc); right_side = pos (crossing_demands town set + 1) }
 
 -- the rows times their multipliers, divided by the divisor and rounded up
 abbrev pub round_row : List Row → ℕ → List (ℕ × ℕ) → Row
 round_row rows divisor mult = record {
   coef = λ arc. ceil_div (sum_over (λ q. pos q.1 *ℤ (row_at rows q.0).coef arc) mult) divisor;
-  side = ceil_div (sum_over (λ q. pos q.1 *ℤ (row_at rows q.0).side) mult) divisor;
+  right_side = ceil_div (sum_over (λ q. pos q.1 *ℤ (row_at rows q.0).right_side) mult) divisor;
 }
 
 -- the sets of the two ends of an arc are the first and the last
@@ -70,7 +70,7 @@ chain_distance town k of arc =
 abbrev pub kc_row : Town → ℕ → List ℕ → Row
 kc_row town k of = record {
   coef = λ arc. pos (chain_distance town k of arc);
-  side = pos (2 * (k - 1) + (k - 2) * joining_demands town k of);
+  right_side = pos (2 * (k - 1) + (k - 2) * joining_demands town k of);
 }
 
 -- each set but the first and the last wholly holds a required street
@@ -94,19 +94,12 @@ is_chain town k of =
 
 -- the row that a record adds to these
 abbrev pub row_of : Town → List Row → Record → Option Row
-row_of town rows (Tour cost steps) = None
 row_of town rows (Conn r1 r2 set) = Some (conn_row town set)
 row_of town rows (Odd set) = Some (odd_row town set)
 row_of town rows (Round divisor mult) = Some (round_row rows divisor mult)
 row_of town rows (Kc k of) = Some (kc_row town k of)
-row_of town rows (Bound node den mult) = None
-row_of town rows (Empty node mult) = None
-row_of town rows (Apart node r1 r2 set) = None
-row_of town rows (Point node den numbers) = None
-row_of town rows (Blind node) = None
-row_of town rows (Split node arc k) = None
-row_of town rows (Labels labels streets) = None
+row_of town rows item = None
 
 -- a coefficient at a legal arc or the right side is above 2^20 in size
 abbrev pub is_wide : Town → Row → Bool
-is_wide town row = not (nat_le (unsigned_abs row.side) 1048576 && list_all (λ arc. nat_le (unsigned_abs (row.coef arc)) 1048576) (legal_arcs town))
+is_wide town row = not (nat_le (unsigned_abs row.right_side) 1048576 && list_all (λ arc. nat_le (unsigned_abs (row.coef arc)) 1048576) (legal_arcs town))

@@ -60,48 +60,22 @@ has_number_rules (Split node arc k) = is_count node && is_index arc && is_index 
 has_number_rules (Labels labels streets) = list_all is_index labels && list_all is_index streets
 
 abbrev pub is_labels : Record → Bool
-is_labels (Tour cost steps) = false
-is_labels (Conn r1 r2 set) = false
-is_labels (Odd set) = false
-is_labels (Round divisor mult) = false
-is_labels (Kc k of) = false
-is_labels (Bound node den mult) = false
-is_labels (Empty node mult) = false
-is_labels (Apart node r1 r2 set) = false
-is_labels (Point node den numbers) = false
-is_labels (Blind node) = false
-is_labels (Split node arc k) = false
 is_labels (Labels labels streets) = true
+is_labels item = false
 
 -- the record adds a row
 abbrev pub is_cut : Record → Bool
-is_cut (Tour cost steps) = false
 is_cut (Conn r1 r2 set) = true
 is_cut (Odd set) = true
 is_cut (Round divisor mult) = true
 is_cut (Kc k of) = true
-is_cut (Bound node den mult) = false
-is_cut (Empty node mult) = false
-is_cut (Apart node r1 r2 set) = false
-is_cut (Point node den numbers) = false
-is_cut (Blind node) = false
-is_cut (Split node arc k) = false
-is_cut (Labels labels streets) = false
+is_cut item = false
 
 -- a Point or Blind of this node
 abbrev pub leads_to_split : ℕ → Record → Bool
-leads_to_split split (Tour cost steps) = false
-leads_to_split split (Conn r1 r2 set) = false
-leads_to_split split (Odd set) = false
-leads_to_split split (Round divisor mult) = false
-leads_to_split split (Kc k of) = false
-leads_to_split split (Bound node den mult) = false
-leads_to_split split (Empty node mult) = false
-leads_to_split split (Apart node r1 r2 set) = false
 leads_to_split split (Point node den numbers) = node == split
 leads_to_split split (Blind node) = node == split
-leads_to_split split (Split node arc k) = false
-leads_to_split split (Labels labels streets) = false
+leads_to_split split item = false
 
 -- a Labels record stands alone
 abbrev pub is_alone : Standing → Record → Bool

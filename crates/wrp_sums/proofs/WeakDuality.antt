@@ -37,7 +37,7 @@ module _ (p : Program) (d e : ℕ) (mult : List (ℕ × ℕ)) (x : ℕ → ℕ) 
   reduced_sum = sum_over (λ a. reduced_cost p d mult a *ℤ pos (x a)) p.arcs
 
   side_sum : ℤ
-  side_sum = sum_over (λ q. pos q.1 *ℤ p.side q.0) mult
+  side_sum = sum_over (λ q. pos q.1 *ℤ p.right_side q.0) mult
 
   weighted_rows : ℤ
   weighted_rows = sum_over (λ q. pos q.1 *ℤ row_sum p q.0 x) mult
@@ -64,13 +64,13 @@ module _ (p : Program) (d e : ℕ) (mult : List (ℕ × ℕ)) (x : ℕ → ℕ) 
       omega (
         arith,
         linear,
-        sum_over-*ℤ (pos e) (λ q. pos q.1 *ℤ p.side q.0) mult,
-        sum_over-≤ℤ (λ q. pos e *ℤ (pos q.1 *ℤ p.side q.0)) (λ q. pos q.1 *ℤ row_sum p q.0 x) mult
+        sum_over-*ℤ (pos e) (λ q. pos q.1 *ℤ p.right_side q.0) mult,
+        sum_over-≤ℤ (λ q. pos e *ℤ (pos q.1 *ℤ p.right_side q.0)) (λ q. pos q.1 *ℤ row_sum p q.0 x) mult
             (λ q inside. omega (
               arith,
               linear,
-              *ℤ_left_comm (pos e) (pos q.1) (p.side q.0),
-              scale_le q.1 (pos e *ℤ p.side q.0) (row_sum p q.0 x) (s.meets q inside),
+              *ℤ_left_comm (pos e) (pos q.1) (p.right_side q.0),
+              scale_le q.1 (pos e *ℤ p.right_side q.0) (row_sum p q.0 x) (s.meets q inside),
             )),
       )
 

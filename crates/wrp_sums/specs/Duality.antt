@@ -9,7 +9,7 @@ pub record Program : Type 0 where
   -- the coefficient of a row at an arc
   pub coef : ℕ → ℕ → ℤ
   -- the right side of a row
-  pub side : ℕ → ℤ
+  pub right_side : ℕ → ℤ
   -- the cost of one use of an arc
   pub cost : ℕ → ℕ
   -- the least and the greatest number of uses of an arc
@@ -27,7 +27,7 @@ reduced_cost p d mult a = pos (d * p.cost a) -ℤ sum_over (λ q. pos q.1 *ℤ p
 -- the bound that multipliers give, by row and number, for d times the cost
 abbrev pub dual_value : Program → ℕ → List (ℕ × ℕ) → ℤ
 dual_value p d mult =
-    sum_over (λ q. pos q.1 *ℤ p.side q.0) mult
+    sum_over (λ q. pos q.1 *ℤ p.right_side q.0) mult
     +ℤ sum_over (λ a. least_term (reduced_cost p d mult a) (p.lo a) (p.hi a)) p.arcs
 
 -- the left side of row r at the numbers x
@@ -42,4 +42,4 @@ cost_sum p x = sum_over (λ a. pos (p.cost a * x a)) p.arcs
 pub record IsSolution (p : Program) (e : ℕ) (mult : List (ℕ × ℕ)) (x : ℕ → ℕ) : Type 0 where
   pub at_least : (a : ℕ) → Contains p.arcs a → p.lo a * e ≤ x a
   pub at_most : (a : ℕ) → Contains p.arcs a → x a ≤ p.hi a * e
-  pub meets : (q : ℕ × ℕ) → Contains mult q → (pos e *ℤ p.side q.0) ≤ℤ row_sum p q.0 x
+  pub meets : (q : ℕ × ℕ) → Contains mult q → (pos e *ℤ p.right_side q.0) ≤ℤ row_sum p q.0 x

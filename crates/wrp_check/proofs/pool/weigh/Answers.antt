@@ -23,7 +23,7 @@ loop-row-preserved c =
       exact = λ arc below.
           omega (arith, linear, old.exact arc below, added.exact arc (omega arith), ap (λ (xs : List (ℕ × ℕ)). weighted_coef pool xs arc) cons);
       size = λ arc. omega (arith, old.size arc, added.size arc);
-      side = omega (arith, linear, sum, old.side, added.side, ap (λ (xs : List (ℕ × ℕ)). weighted_side pool xs) cons);
+      right_side = omega (arith, linear, sum, old.right_side, added.right_side, ap (λ (xs : List (ℕ × ℕ)). weighted_side pool xs) cons);
       side_size = omega (arith, casts, old.side_size, added.side_size);
       weights = multipliers.1;
       rows = rows_go_on pool (c.in-Some.row, c.in-Some.weight) rest c.args.mult (omega arith) (sym (ap (has_rows pool) cons) ∙ old.rows);

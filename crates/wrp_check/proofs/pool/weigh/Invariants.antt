@@ -9,7 +9,7 @@ abbrev pub invariant-loop-row : goal.invariant-loop-row
 invariant-loop-row l = record {
   exact : (arc : ℕ) → arc < length l.fn.left → get_or l.left arc (pos 0) +ℤ weighted_coef l.pool l.pairs arc ≡ weighted_coef l.pool l.fn.mult arc;
   size : (arc : ℕ) → unsigned_abs (get_or l.left arc (pos 0)) + length l.pairs * 2 ^ 94 ≤ 2 ^ 106;
-  side : l.sides +ℤ weighted_side l.pool l.pairs ≡ weighted_side l.pool l.fn.mult;
+  right_side : l.sides +ℤ weighted_side l.pool l.pairs ≡ weighted_side l.pool l.fn.mult;
   side_size : unsigned_abs l.sides + length l.pairs * 2 ^ 80 ≤ 2 ^ 92;
   weights : list_all (λ p. is_from_one (2 ^ 60) p.1) l.pairs ≡ true;
   rows : has_rows l.pool l.pairs ≡ has_rows l.pool l.fn.mult;
