@@ -21,10 +21,10 @@ use Rattle.wrp_rules.specs.Rules.{is_index, is_count, is_from_one, is_ascending,
 use Rattle.wrp_rules.specs.Judged.{is_judged, go_on_judged, are_judged}
 use Rattle.wrp_proof.specs.Views.{is_later}
 use Rattle.wrp_rules.specs.Proofs.{Version, version_1, version_2, ended, record_lines, IsProofBy}
-use Rattle.wrp_lines.proofs.Written.{text-number}
-use Rattle.wrp_lines.proofs.WrittenPairs.{number_digits}
-use Rattle.wrp_lines.proofs.Spacing.{spread}
-use Rattle.wrp_lines.proofs.PairLists.{index-of_most}
+use Rattle.wrp_grammar.proofs.Written.{text-number}
+use Rattle.wrp_grammar.proofs.WrittenPairs.{number_digits}
+use Rattle.wrp_grammar.proofs.Spacing.{spread}
+use Rattle.wrp_grammar.proofs.PairLists.{index-of_most}
 use Rattle.wrp_proof.proofs.LineLaws.{line-spelled}
 use Rattle.wrp_proof.proofs.SpelledLaws.{is_viewed, Tried, passes-tried, end_line-spelled}
 use Rattle.wrp_check.specs.Streams.{most_bytes, is_one_line}

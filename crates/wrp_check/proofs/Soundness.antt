@@ -17,7 +17,7 @@ use Rattle.wrp_rules.specs.Lists.{goes_on, agrees}
 use Rattle.wrp_rules.specs.Rules.{broken_rule}
 use Rattle.wrp_rules.specs.Judged.{is_judged, go_on_judged, judged_rule}
 use Rattle.wrp_proof.specs.Views.{is_later, spelled}
-use Rattle.wrp_lines.specs.Shapes.{has_shape}
+use Rattle.wrp_grammar.specs.Shapes.{has_shape}
 use Rattle.wrp_proof.specs.Ends.{is_later_end, has_end_shape, spelled_end}
 use Rattle.wrp_rules.specs.Proofs.{Version, version_1, version_2, ended, record_lines, IsProofBy, IsProof}
 use Rattle.wrp_proof.proofs.SpelledLaws.{spelled_viewed, spelled-end_line, judged-passes}

@@ -13,7 +13,7 @@ use Rattle.wrp_rules.specs.Nodes.{Standing, start, after}
 use Rattle.wrp_rules.specs.Lists.{agrees}
 use Rattle.wrp_rules.specs.Judged.{judged_rule}
 use Rattle.wrp_proof.specs.Views.{is_later, spelled}
-use Rattle.wrp_lines.specs.Shapes.{has_shape}
+use Rattle.wrp_grammar.specs.Shapes.{has_shape}
 use Rattle.wrp_proof.specs.Ends.{is_later_end, has_end_shape, spelled_end}
 use Rattle.wrp_rules.specs.Proofs.{version_1, version_2}
 use Rattle.wrp_check.specs.declared.pass.CheckFault.{CheckFault}

@@ -6,13 +6,13 @@ use Rattle.std.proofs.lemmas.List.{append-nil}
 use Rattle.std.proofs.lemmas.Slice.Eq.{bytes_eq-Decides}
 use Rattle.std.specs.List.{slice_split}
 use Rattle.std.specs.Str.{bytes_eq}
-use Rattle.wrp_lines.specs.Fronts.{IsLongestFront}
-use Rattle.wrp_lines.specs.Parts.{is_space, is_digits, are_two}
+use Rattle.wrp_grammar.specs.Fronts.{IsLongestFront}
+use Rattle.wrp_grammar.specs.Parts.{is_space, is_digits, are_two}
 use Rattle.wrp_proof.specs.Ends.{are_numbers, has_word_shape, begins_with_end, has_end_shape}
-use Rattle.wrp_lines.proofs.Fronts.{front-at, front-same, front-cons, front-append, front-end, front-stop}
-use Rattle.wrp_lines.proofs.PartFronts.{digits_front, digits-front, digits-one}
-use Rattle.wrp_lines.proofs.Spacing.{spread, digits-solid, spread-split, solid_cut}
-use Rattle.wrp_lines.proofs.TwoNumbers.{is_two_text, two-same, two-text, text-two}
+use Rattle.wrp_grammar.proofs.Fronts.{front-at, front-same, front-cons, front-append, front-end, front-stop}
+use Rattle.wrp_grammar.proofs.PartFronts.{digits_front, digits-front, digits-one}
+use Rattle.wrp_grammar.proofs.Spacing.{spread, digits-solid, spread-split, solid_cut}
+use Rattle.wrp_grammar.proofs.TwoNumbers.{is_two_text, two-same, two-text, text-two}
 
 -- a word, and behind it a text of a shape
 abbrev pub behind : List ℕ → (List ℕ → Bool) → List ℕ → Bool

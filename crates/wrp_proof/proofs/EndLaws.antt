@@ -8,12 +8,12 @@ use Rattle.std.specs.Str.{bytes_eq}
 use Rattle.wrp_rules.specs.declared.record.End.{End}
 use Rattle.wrp_rules.specs.declared.record.End.TheVariants.{Optimal, Infeasible, Unfinished}
 use Rattle.wrp_rules.specs.Lines.{end_line}
-use Rattle.wrp_lines.specs.Parts.{is_space, parts_of, is_number, number_of, is_count_part}
+use Rattle.wrp_grammar.specs.Parts.{is_space, parts_of, is_number, number_of, is_count_part}
 use Rattle.wrp_rules.specs.Rules.{is_count}
 use Rattle.wrp_proof.specs.Ends.{has_end_numbers, IsEndLineOf, optimal_in, infeasible_in, unfinished_in, end_of_word, end_of_parts, end_in}
-use Rattle.wrp_lines.proofs.Written.{number-text, text-number}
-use Rattle.wrp_lines.proofs.WrittenPairs.{number_digits}
-use Rattle.wrp_lines.proofs.Spacing.{is_solid, spread, digits-solid, spread-split, parts_of-spread}
+use Rattle.wrp_grammar.proofs.Written.{number-text, text-number}
+use Rattle.wrp_grammar.proofs.WrittenPairs.{number_digits}
+use Rattle.wrp_grammar.proofs.Spacing.{is_solid, spread, digits-solid, spread-split, parts_of-spread}
 
 -- the parts of the line of an end, behind `end`
 abbrev pub end_parts : End → List (List ℕ)

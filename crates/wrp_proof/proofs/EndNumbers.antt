@@ -7,13 +7,13 @@ use Rattle.std.specs.List.{list_all, slice_split}
 use Rattle.wrp_rules.specs.declared.record.End.TheVariants.{Optimal, Infeasible, Unfinished}
 use Rattle.wrp_proof.specs.EndFaults.{IsFirstBadCost}
 use Rattle.wrp_proof.specs.Ends.{has_end_shape, end_in, optimal_in}
-use Rattle.wrp_lines.specs.Parts.{is_space, is_digits, is_count_part, number_of}
-use Rattle.wrp_lines.proofs.Guards.{guard-none}
+use Rattle.wrp_grammar.specs.Parts.{is_space, is_digits, is_count_part, number_of}
+use Rattle.wrp_grammar.proofs.Guards.{guard-none}
 use Rattle.wrp_proof.proofs.EndFronts.{behind, shared_front, full, end-same, alone, is_empty, is_optimal, is_unfinished, is_infeasible, is_end}
-use Rattle.wrp_lines.proofs.PartFronts.{digits_front, digits-one}
-use Rattle.wrp_lines.proofs.PartPlaces.{front-more}
-use Rattle.wrp_lines.proofs.Spacing.{digits-solid, solid_cut}
-use Rattle.wrp_lines.proofs.TwoNumbers.{is_two_text, text-two}
+use Rattle.wrp_grammar.proofs.PartFronts.{digits_front, digits-one}
+use Rattle.wrp_grammar.proofs.PartPlaces.{front-more}
+use Rattle.wrp_grammar.proofs.Spacing.{digits-solid, solid_cut}
+use Rattle.wrp_grammar.proofs.TwoNumbers.{is_two_text, text-two}
 
 or-false : (a : Bool) → (a || false) ≡ true → a ≡ true
 or-false true h = refl

@@ -1,11 +1,11 @@
 -- A line spells the record of its parts, and no other record.
 use Rattle.std.proofs.Common.{Option, Some, None, ◌≡◌, ℕ, Bool, true, false, cond, List, [], ◌∷◌, refl, sym, ap, ◌∙◌}
 use Rattle.wrp_rules.specs.declared.record.Record.{Record}
-use Rattle.wrp_lines.specs.Parts.{is_spaced, parts_of}
-use Rattle.wrp_lines.specs.Spelling.{record_in}
+use Rattle.wrp_grammar.specs.Parts.{is_spaced, parts_of}
+use Rattle.wrp_grammar.specs.Spelling.{record_in}
 use Rattle.wrp_proof.specs.Views.{spelled, IsLineOf}
-use Rattle.wrp_lines.proofs.Spacing.{spread, spread-parts_of, parts_of-spread}
-use Rattle.wrp_lines.proofs.Records.{letter_of, texts_of, line-texts, spells, is-read}
+use Rattle.wrp_grammar.proofs.Spacing.{spread, spread-parts_of, parts_of-spread}
+use Rattle.wrp_grammar.proofs.Records.{letter_of, texts_of, line-texts, spells, is-read}
 
 clash : {P : Type 0} (item : Record) → None ≡ Some item → P
 clash item e = absurd (no e)

@@ -6,15 +6,15 @@ use Rattle.std.proofs.lemmas.Slice.Eq.{bytes_eq-Decides}
 use Rattle.std.specs.List.{list_all, list_any}
 use Rattle.wrp_rules.specs.declared.record.Record.{Record}
 use Rattle.wrp_rules.specs.declared.record.Record.TheVariants.{Tour, Conn, Odd, Round, Kc, Bound, Empty, Apart, Point, Blind, Split, Labels}
-use Rattle.wrp_lines.specs.declared.place.Tail.TheVariants as tails
-use Rattle.wrp_lines.specs.Numbers.{keeps_then, are_labels, keeps_rules}
-use Rattle.wrp_lines.specs.Parts.{is_spaced, parts_of, is_digits, number_of, numbers_of, is_count_part, is_index_part, is_from_one_part, are_set_parts, is_step, step_of, pair_of, are_multiplier_parts, are_pair_parts}
-use Rattle.wrp_lines.specs.Shapes.{is_slash, has_labels_shape, one_then, two_then, three_then, has_tail_shape, has_parts_shape}
-use Rattle.wrp_lines.specs.Spelling.{record_in, tour_in, conn_in, odd_in, round_in, kc_in, bound_in, empty_in, apart_in, point_in, blind_in, split_in, labels_in, label_parts, street_parts}
+use Rattle.wrp_grammar.specs.declared.place.Tail.TheVariants as tails
+use Rattle.wrp_grammar.specs.Numbers.{keeps_then, are_labels, keeps_rules}
+use Rattle.wrp_grammar.specs.Parts.{is_spaced, parts_of, is_digits, number_of, numbers_of, is_count_part, is_index_part, is_from_one_part, are_set_parts, is_step, step_of, pair_of, are_multiplier_parts, are_pair_parts}
+use Rattle.wrp_grammar.specs.Shapes.{is_slash, has_labels_shape, one_then, two_then, three_then, has_tail_shape, has_parts_shape}
+use Rattle.wrp_grammar.specs.Spelling.{record_in, tour_in, conn_in, odd_in, round_in, kc_in, bound_in, empty_in, apart_in, point_in, blind_in, split_in, labels_in, label_parts, street_parts}
 use Rattle.wrp_proof.specs.Views.{spelled}
-use Rattle.wrp_lines.proofs.Guards.{guard-test}
-use Rattle.wrp_lines.proofs.Positions.{before-more, after-more}
-use Rattle.wrp_lines.proofs.LabelLists.{before-slash, after-slash}
+use Rattle.wrp_grammar.proofs.Guards.{guard-test}
+use Rattle.wrp_grammar.proofs.Positions.{before-more, after-more}
+use Rattle.wrp_grammar.proofs.LabelLists.{before-slash, after-slash}
 
 never : {P : Type 0} (a : Bool) → (a && false) ≡ true → P
 never true h = absurd (false≢true h)

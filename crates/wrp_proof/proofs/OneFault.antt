@@ -10,10 +10,10 @@ use Rattle.wrp_proof.specs.declared.views.ViewFault.{ViewFault}
 use Rattle.wrp_proof.specs.declared.views.ViewFault.TheVariants as faults
 use Rattle.wrp_proof.specs.EndFaults.{IsFirstBadCost}
 use Rattle.wrp_proof.specs.Ends.{IsEndFault}
-use Rattle.wrp_lines.specs.Fronts.{IsLongestFront}
+use Rattle.wrp_grammar.specs.Fronts.{IsLongestFront}
 use Rattle.wrp_rules.specs.Lines.{spaced}
-use Rattle.wrp_lines.specs.Numbers.{keeps_rules, place_in, IsFirstBad, IsFirstBadNumber}
-use Rattle.wrp_lines.specs.Parts.{is_count_part}
+use Rattle.wrp_grammar.specs.Numbers.{keeps_rules, place_in, IsFirstBad, IsFirstBadNumber}
+use Rattle.wrp_grammar.specs.Parts.{is_count_part}
 use Rattle.wrp_proof.specs.Views.{IsFaultOf}
 
 one-front : (shape : List ℕ → Bool) (text : List ℕ) (m n : ℕ) → IsLongestFront shape text m → IsLongestFront shape text n → m ≡ n

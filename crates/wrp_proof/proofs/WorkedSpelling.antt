@@ -2,7 +2,7 @@
 use Rattle.std.specs.Prelude.{codes}
 use Rattle.std.proofs.Common.{◌≡◌, true, false, [], ◌∷◌, None, Some, refl}
 use Rattle.wrp_rules.specs.declared.record.Record.TheVariants.{Bound}
-use Rattle.wrp_lines.specs.Shapes.{has_shape}
+use Rattle.wrp_grammar.specs.Shapes.{has_shape}
 use Rattle.wrp_proof.specs.Views.{spelled}
 
 -- the record that a line spells

@@ -2,7 +2,7 @@
 use Rattle.std.specs.Prelude.{codes, ◌≡◌, ℕ, ◌+◌, true, false, List, ◌∷◌, ◌++◌, length}
 use Rattle.std.specs.List.{list_all, slice_split}
 use Rattle.wrp_rules.specs.Lines.{spaced}
-use Rattle.wrp_lines.specs.Parts.{is_space, is_count_part}
+use Rattle.wrp_grammar.specs.Parts.{is_space, is_count_part}
 
 -- the number at this place is no cost, and those before it are: no space stands in them, nor in the word
 pub record IsFirstBadCost (line : List ℕ) (at : ℕ) : Type 0 where

@@ -7,9 +7,9 @@ use Rattle.wrp_rules.specs.declared.record.End.TheVariants.{Optimal, Infeasible,
 use Rattle.wrp_proof.specs.declared.fault.LineFault.{LineFault}
 use Rattle.wrp_proof.specs.declared.fault.LineFault.TheVariants as faults
 use Rattle.wrp_proof.specs.EndFaults.{IsFirstBadCost}
-use Rattle.wrp_lines.specs.Fronts.{IsLongestFront}
+use Rattle.wrp_grammar.specs.Fronts.{IsLongestFront}
 use Rattle.wrp_rules.specs.Lines.{end_line}
-use Rattle.wrp_lines.specs.Parts.{is_space, is_digits, number_of, is_count_part}
+use Rattle.wrp_grammar.specs.Parts.{is_space, is_digits, number_of, is_count_part}
 use Rattle.wrp_rules.specs.Rules.{is_count}
 
 -- the numbers of an end are below 2 ^ 63

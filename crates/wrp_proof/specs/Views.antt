@@ -11,11 +11,11 @@ use Rattle.wrp_proof.specs.declared.fault.LineFault.{LineFault}
 use Rattle.wrp_proof.specs.declared.fault.LineFault.TheVariants as line_faults
 use Rattle.wrp_rules.specs.Lines.{line_of}
 use Rattle.wrp_rules.specs.Rules.{has_number_rules}
-use Rattle.wrp_lines.specs.Parts.{is_spaced, parts_of}
-use Rattle.wrp_lines.specs.Shapes.{has_shape}
-use Rattle.wrp_lines.specs.Fronts.{IsLongestFront}
-use Rattle.wrp_lines.specs.Numbers.{IsFirstBadNumber}
-use Rattle.wrp_lines.specs.Spelling.{record_in}
+use Rattle.wrp_grammar.specs.Parts.{is_spaced, parts_of}
+use Rattle.wrp_grammar.specs.Shapes.{has_shape}
+use Rattle.wrp_grammar.specs.Fronts.{IsLongestFront}
+use Rattle.wrp_grammar.specs.Numbers.{IsFirstBadNumber}
+use Rattle.wrp_grammar.specs.Spelling.{record_in}
 
 -- the record with the fields and the lists of a view
 abbrev pub record_of : View → Record

@@ -4,13 +4,13 @@ ghost use Rattle.std.specs.List.{slice_split};
 ghost use Rattle.std.specs.Str.{bytes_eq};
 ghost use Rattle.wrp_rules.specs.declared.record.End.{End};
 ghost use Rattle.wrp_proof.specs.declared.fault.LineFault.{LineFault};
-ghost use Rattle.wrp_lines.specs.Parts.{parts_of, is_space};
+ghost use Rattle.wrp_grammar.specs.Parts.{parts_of, is_space};
 ghost use Rattle.wrp_proof.specs.EndFaults.{IsFirstBadCost};
-ghost use Rattle.wrp_lines.specs.Fronts.{IsLongestFront};
+ghost use Rattle.wrp_grammar.specs.Fronts.{IsLongestFront};
 ghost use Rattle.wrp_proof.specs.Ends.{optimal_in, infeasible_in, unfinished_in, end_of_word, end_in, are_numbers, has_end_shape, spelled_end, is_later_end as is_later_line, IsEndLineOf, IsEndFault};
 
 use crate::fault::LineFault;
-use wrp_lines::{digits_before, first_part, is_digits_text, read_count, split_part, two_numbers};
+use wrp_grammar::{digits_before, first_part, is_digits_text, read_count, split_part, two_numbers};
 use wrp_rules::End;
 
 /// A line of a proof has at most as many bytes.

@@ -21,5 +21,5 @@ pub use reading::{is_later, view};
 pub use views::{View, ViewFault};
 pub use whole::proof_text;
 pub use writing::{write_end, write_record};
-pub use wrp_lines::{NumbersOf, PairsOf, StepsOf};
+pub use wrp_grammar::{NumbersOf, PairsOf, StepsOf};
 pub use wrp_rules::{End, Record, Rule};

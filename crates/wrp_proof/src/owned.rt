@@ -8,7 +8,7 @@ use crate::fault::LineFault;
 use crate::reading::view;
 use crate::views::{View, ViewFault};
 use std::alloc::{AllocError, Global};
-use wrp_lines::{NumbersOf, PairsOf, StepsOf};
+use wrp_grammar::{NumbersOf, PairsOf, StepsOf};
 use wrp_rules::Record;
 use wrp_town::{List, Step};
 

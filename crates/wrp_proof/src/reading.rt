@@ -3,14 +3,14 @@ ghost use Rattle.std.specs.Prelude.{◌≡◌, ◌∷◌, ℕ, ◌^◌, ◌≤�
 ghost use Rattle.std.specs.Option.{option_map};
 ghost use Rattle.wrp_rules.specs.declared.record.Record.{Record};
 ghost use Rattle.wrp_proof.specs.declared.views.ViewFault.{ViewFault};
-ghost use Rattle.wrp_lines.specs.Parts.{is_spaced, parts_of};
-ghost use Rattle.wrp_lines.specs.Spelling.{record_in, tour_in, conn_in, odd_in, round_in, kc_in, bound_in, empty_in, apart_in, point_in, blind_in, split_in, labels_in};
-ghost use Rattle.wrp_lines.specs.Fronts.{IsLongestFront};
+ghost use Rattle.wrp_grammar.specs.Parts.{is_spaced, parts_of};
+ghost use Rattle.wrp_grammar.specs.Spelling.{record_in, tour_in, conn_in, odd_in, round_in, kc_in, bound_in, empty_in, apart_in, point_in, blind_in, split_in, labels_in};
+ghost use Rattle.wrp_grammar.specs.Fronts.{IsLongestFront};
 ghost use Rattle.wrp_proof.specs.Views.{record_of, is_later_letter, goes_on as goes_on_behind, is_later as is_later_line, spelled as record_spelled, IsLineOf, IsFaultOf};
-ghost use Rattle.wrp_lines.specs.Shapes.{has_shape, is_letter};
+ghost use Rattle.wrp_grammar.specs.Shapes.{has_shape, is_letter};
 
 use crate::views::{View, ViewFault};
-use wrp_lines::{
+use wrp_grammar::{
     NumbersOf, PairsOf, StepsOf, form_place, goes_on_with_space, label_halves, number_place,
     read_count, read_from_one, read_index, split_part,
 };

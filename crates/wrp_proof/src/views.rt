@@ -1,5 +1,5 @@
 //! Views of records, lent from their lines.
-use wrp_lines::{NumbersOf, PairsOf, StepsOf};
+use wrp_grammar::{NumbersOf, PairsOf, StepsOf};
 
 /// A record, lent from its line. The lists give their parts one by one.
 #[derive(Debug, Drop)]

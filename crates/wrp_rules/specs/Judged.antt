@@ -1,5 +1,5 @@
 -- The records that the checker judges so far: tours, and bounds with no negative reduced cost.
-use Rattle.std.specs.Prelude.{ℕ, Bool, true, false, ◌&&◌, pos, int_le, int_lt, List, [], ◌∷◌, Option}
+use Rattle.std.specs.Prelude.{ℕ, Bool, true, false, ◌&&◌, pos, int_le, List, [], ◌∷◌, Option}
 use Rattle.std.specs.List.{list_all}
 use Rattle.wrp_sums.specs.Duality.{reduced_cost}
 use Rattle.wrp_town.specs.declared.town.Town.{Town}
@@ -8,12 +8,13 @@ use Rattle.wrp_rules.specs.declared.record.Record.{Record}
 use Rattle.wrp_rules.specs.declared.record.Record.TheVariants.{Tour, Bound}
 use Rattle.wrp_rules.specs.declared.rule.Rule.{Rule}
 use Rattle.wrp_rules.specs.declared.rule.Rule.TheVariants as rules
-use Rattle.wrp_rules.specs.Nodes.{Standing, start, after, node_at, program, bound_value}
-use Rattle.wrp_rules.specs.Rules.{has_number_rules, is_alone, node_is_there, rows_are_there, node_is_open, first_broken, rules_of}
+use Rattle.wrp_rules.specs.Nodes.{Standing, start, after, program_at}
+use Rattle.wrp_rules.specs.Rules.{node_is_there, rows_are_there, node_is_open, raises_bound, first_broken, common_rules, rules_of}
 
 -- no legal arc has a negative reduced cost
 abbrev pub has_plain_costs : Town → Standing → ℕ → ℕ → List (ℕ × ℕ) → Bool
-has_plain_costs town s node den mult = list_all (λ arc. int_le (pos 0) (reduced_cost (program town s.rows (node_at town s node)) den mult arc)) (legal_arcs town)
+has_plain_costs town s node den mult =
+    list_all (λ arc. int_le (pos 0) (reduced_cost (program_at town s node) den mult arc)) (legal_arcs town)
 
 abbrev pub is_judged : Town → Standing → Record → Bool
 is_judged town s (Tour cost steps) = true
@@ -23,7 +24,8 @@ is_judged town s item = false
 -- each of these records is judged, after those that stand and those before it
 abbrev pub go_on_judged : Town → Standing → List Record → Bool
 go_on_judged town s [] = true
-go_on_judged town s (item ∷ items) = is_judged town s item && go_on_judged town (after town s item) items
+go_on_judged town s (item ∷ items) =
+    is_judged town s item && go_on_judged town (after town s item) items
 
 -- each record of the list is judged
 abbrev pub are_judged : Town → List Record → Bool
@@ -35,10 +37,10 @@ judged_rules_of town s (Bound node den mult) =
     (rules.Range, node_is_there s node && rows_are_there s mult)
     ∷ (rules.Closed, node_is_open town s node)
     ∷ (rules.Later, has_plain_costs town s node den mult)
-    ∷ (rules.Low, int_lt (node_at town s node).bound (bound_value town s.rows (node_at town s node) den mult)) ∷ []
+    ∷ (rules.Low, raises_bound town s node den mult) ∷ []
 judged_rules_of town s item = rules_of town s item
 
 -- the first of these that a record breaks
 abbrev pub judged_rule : Town → Standing → Record → Option Rule
 judged_rule town s item =
-    first_broken ((rules.Number, has_number_rules item) ∷ (rules.Lonely, is_alone s item) ∷ judged_rules_of town s item)
+    first_broken (common_rules s item (judged_rules_of town s item))

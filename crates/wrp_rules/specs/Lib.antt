@@ -1,5 +1,8 @@
 pub mod Sets
 pub mod Rows
+pub mod Layouts
+pub mod Ranges
+pub mod Contents
 pub mod Nodes
 pub mod Rules
 pub mod Lists

@@ -12,7 +12,8 @@ use Rattle.wrp_rules.specs.Rules.{broken_rule, is_labels, int_eq}
 -- each of these records breaks no rule after those that stand and those before it
 abbrev pub goes_on : Town → Standing → List Record → Bool
 goes_on town s [] = true
-goes_on town s (item ∷ items) = is_none (broken_rule town s item) && goes_on town (after town s item) items
+goes_on town s (item ∷ items) =
+    is_none (broken_rule town s item) && goes_on town (after town s item) items
 
 -- each record breaks no rule after those before it
 abbrev pub is_valid : Town → List Record → Bool
@@ -30,4 +31,5 @@ is_done s = length (open_nodes s) == 0
 abbrev pub agrees : Standing → End → Bool
 agrees s (Optimal cost) = is_done s && is_upper s cost
 agrees s Infeasible = (length s.records == 1) && list_all is_labels s.records
-agrees s (Unfinished low high) = not (is_done s) && is_upper s high && option_map_or (int_eq (pos low)) (lower s) false
+agrees s (Unfinished low high) =
+    not (is_done s) && is_upper s high && option_map_or (int_eq (pos low)) (lower s) false

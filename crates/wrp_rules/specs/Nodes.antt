@@ -1,4 +1,4 @@
--- What a list of records stands for: rows, nodes with their boxes and bounds, and the cheapest tour so far.
+-- What a list of records stands for: rows, nodes with boxes and bounds, and the cheapest tour so far.
 use Rattle.std.specs.Prelude.{ℕ, zero, suc, ◌+◌, Bool, true, false, ◌&&◌, not, if◌then◌else◌, ◌==◌, min, ℤ, pos, int_lt, List, [], ◌∷◌, ◌++◌, length, slice_index_or, Option, None, Some}
 use Rattle.std.specs.Int.{int_min}
 use Rattle.std.specs.Option.{option_map, option_or, option_to_list, option_map_or}
@@ -11,8 +11,8 @@ use Rattle.wrp_rules.specs.declared.record.Record.{Record}
 use Rattle.wrp_rules.specs.declared.record.Record.TheVariants.{Tour, Bound, Empty, Apart, Split}
 use Rattle.wrp_rules.specs.Rows.{Row, base_rows, row_at, row_of}
 
--- a part of the search: the least and the greatest number of uses of each arc, and a bound of each tour within;
--- closed where it was split or emptied
+-- a part of the search: the least and the greatest number of uses of each arc, and a bound of each
+-- tour within; closed where it was split or emptied
 pub record Node : Type 0 where
   pub lo : ℕ → ℕ
   pub hi : ℕ → ℕ
@@ -21,7 +21,12 @@ pub record Node : Type 0 where
 
 -- each arc from 0 times to as often as there are demands
 abbrev pub root : Town → Node
-root town = record { lo = λ arc. 0; hi = λ arc. length (demands town); bound = pos 0; is_closed = false }
+root town = record {
+  lo = λ arc. 0;
+  hi = λ arc. length (demands town);
+  bound = pos 0;
+  is_closed = false;
+}
 
 -- what a list of records stands for
 pub record Standing : Type 0 where
@@ -71,6 +76,13 @@ empty_value town rows node mult = dual_value (free_program town rows node) 1 mul
 abbrev pub node_at : Town → Standing → ℕ → Node
 node_at town s i = slice_index_or s.nodes i (root town)
 
+-- the problem of the node of this number, and the bound of its multipliers
+abbrev pub program_at : Town → Standing → ℕ → Program
+program_at town s i = program town s.rows (node_at town s i)
+
+abbrev pub bound_at : Town → Standing → ℕ → ℕ → List (ℕ × ℕ) → ℤ
+bound_at town s i den mult = bound_value town s.rows (node_at town s i) den mult
+
 -- the node with that bound; the node closed
 abbrev pub with_bound : ℤ → Node → Node
 with_bound bound node = record node { bound = bound }
@@ -93,11 +105,12 @@ changed change (suc i) (node ∷ nodes) = node ∷ changed change i nodes
 
 -- the nodes after one more record
 abbrev pub nodes_after : Town → Standing → Record → List Node
-nodes_after town s (Bound node den mult) = changed (with_bound (bound_value town s.rows (node_at town s node) den mult)) node s.nodes
+nodes_after town s (Bound node den mult) = changed (with_bound (bound_at town s node den mult)) node s.nodes
 nodes_after town s (Empty node mult) = changed closed node s.nodes
 nodes_after town s (Apart node r1 r2 set) = changed closed node s.nodes
 nodes_after town s (Split node arc k) =
-    changed closed node s.nodes ++ at_most arc k (node_at town s node) ∷ at_least arc (k + 1) (node_at town s node) ∷ []
+    changed closed node s.nodes
+    ++ at_most arc k (node_at town s node) ∷ at_least arc (k + 1) (node_at town s node) ∷ []
 nodes_after town s item = s.nodes
 
 -- the cost of the cheapest tour after one more record
@@ -138,7 +151,8 @@ done s = count_by (λ node. not (is_open s.upper node)) s.nodes
 -- the least bound of these nodes
 abbrev pub least_bound : List Node → Option ℤ
 least_bound [] = None
-least_bound (node ∷ nodes) = Some (option_map_or (int_min node.bound) (least_bound nodes) node.bound)
+least_bound (node ∷ nodes) =
+    Some (option_map_or (int_min node.bound) (least_bound nodes) node.bound)
 
 -- the least bound of the open nodes, else the cost of the cheapest tour
 abbrev pub lower : Standing → Option ℤ

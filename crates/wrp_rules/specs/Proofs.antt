@@ -33,7 +33,9 @@ abbrev pub proof_text : Version → List Record → End → List ℕ
 proof_text version records end = ended version.line ++ record_lines records ++ ended (end_line end)
 
 -- the bytes prove the end by these records
-pub record IsProofBy (town : Town) (version : Version) (records : List Record) (end : End) (bytes : List ℕ) : Type 0 where
+pub record IsProofBy
+    (town : Town) (version : Version) (records : List Record) (end : End) (bytes : List ℕ)
+    : Type 0 where
   pub text : bytes ≡ proof_text version records end
   pub valid : is_valid town records ≡ true
   pub agreeing : agrees (standing town records) end ≡ true
@@ -43,4 +45,5 @@ pub record IsProofBy (town : Town) (version : Version) (records : List Record) (
 -- the bytes are a proof of the town with this end; version 1 is for small towns
 abbrev pub IsProof : Town → End → List ℕ → Type 0
 IsProof town end bytes =
-    (records : List Record) × (IsProofBy town version_2 records end bytes ⊎ ((is_small town ≡ true) × IsProofBy town version_1 records end bytes))
+    (records : List Record) × (IsProofBy town version_2 records end bytes
+    ⊎ ((is_small town ≡ true) × IsProofBy town version_1 records end bytes))

@@ -1,5 +1,5 @@
 -- The rows of a list of records: sums of arcs that are at least a right side for every tour.
-use Rattle.std.specs.Prelude.{ℕ, ◌+◌, ◌-◌, ◌*◌, ◌%◌, Bool, ◌&&◌, ◌||◌, not, if◌then◌else◌, ◌==◌, nat_le, ℤ, pos, ◌-ℤ◌, ◌*ℤ◌, List, ◌++◌, map, length, slice_index, slice_index_or, Option, None, Some, unsigned_abs}
+use Rattle.std.specs.Prelude.{ℕ, ◌+◌, ◌-◌, ◌*◌, ◌%◌, ◌^◌, Bool, ◌&&◌, ◌||◌, not, if◌then◌else◌, ◌==◌, nat_le, ℤ, pos, ◌-ℤ◌, ◌*ℤ◌, List, ◌++◌, map, length, slice_index, slice_index_or, Option, None, Some, unsigned_abs}
 use Rattle.std.specs.Int.{abs_diff}
 use Rattle.std.specs.List.{list_any, list_all, count_by, range_with_len}
 use Rattle.wrp_sums.specs.Sums.{sum_over}
@@ -22,7 +22,10 @@ one_if test = if test then pos 1 else pos 0
 
 -- leaving minus entering at a junction
 abbrev pub balance_row : Town → ℕ → Row
-balance_row town j = record { coef = λ arc. one_if (tail_of town arc == j) -ℤ one_if (head_of town arc == j); right_side = pos 0 }
+balance_row town j = record {
+  coef = λ arc. one_if (tail_of town arc == j) -ℤ one_if (head_of town arc == j);
+  right_side = pos 0;
+}
 
 -- the arcs of a demand
 abbrev pub service_row : List ℕ → Row
@@ -42,7 +45,10 @@ conn_row town set = record { coef = λ arc. one_if (leaves town set arc); right_
 
 -- the arcs that cross the set
 abbrev pub odd_row : Town → List ℕ → Row
-odd_row town set = record { coef = λ arc. one_if (crosses town set arc); right_side = pos (crossing_demands town set + 1) }
+odd_row town set = record {
+  coef = λ arc. one_if (crosses town set arc);
+  right_side = pos (crossing_demands town set + 1);
+}
 
 -- the rows times their multipliers, divided by the divisor and rounded up
 abbrev pub round_row : List Row → ℕ → List (ℕ × ℕ) → Row
@@ -73,24 +79,33 @@ kc_row town k of = record {
   right_side = pos (2 * (k - 1) + (k - 2) * joining_demands town k of);
 }
 
+-- the required street lies wholly in set i
+abbrev pub is_held : Town → List ℕ → ℕ → ℕ → Bool
+is_held town of i street =
+    is_required town street && (slice_index of (tail_of town (forward_arc street)) == i)
+    && (slice_index of (head_of town (forward_arc street)) == i)
+
 -- each set but the first and the last wholly holds a required street
 abbrev pub inner_sets_hold : Town → ℕ → List ℕ → Bool
 inner_sets_hold town k of =
-    list_all (λ i. list_any (λ street. is_required town street
-    && (slice_index of (tail_of town (forward_arc street)) == i) && (slice_index of (head_of town (forward_arc street)) == i))
-    (range_with_len 0 (length town.streets))) (range_with_len 1 (k - 1))
+    list_all (λ i. list_any (is_held town of i) (range_with_len 0 (length town.streets))) (range_with_len 1 (k - 1))
+
+-- both ends of the street are in one set
+abbrev pub keeps_set : List ℕ → Town → ℕ → Bool
+keeps_set of town street =
+    slice_index of (tail_of town (forward_arc street)) == slice_index of (head_of town (forward_arc street))
 
 -- no required street joins two different sets other than the first and the last
 abbrev pub streets_keep_sets : Town → ℕ → List ℕ → Bool
 streets_keep_sets town k of =
     list_all (λ street. not (is_required town street) || joins_ends town k of (forward_arc street)
-    || (slice_index of (tail_of town (forward_arc street)) == slice_index of (head_of town (forward_arc street))))
-    (range_with_len 0 (length town.streets))
+    || keeps_set of town street) (range_with_len 0 (length town.streets))
 
 -- the conditions of a K-C cut, beside the range of its numbers
 abbrev pub is_chain : Town → ℕ → List ℕ → Bool
 is_chain town k of =
-    inner_sets_hold town k of && (joining_demands town k of % 2 == 0) && nat_le 2 (joining_demands town k of) && streets_keep_sets town k of
+    inner_sets_hold town k of && (joining_demands town k of % 2 == 0)
+    && nat_le 2 (joining_demands town k of) && streets_keep_sets town k of
 
 -- the row that a record adds to these
 abbrev pub row_of : Town → List Row → Record → Option Row
@@ -100,6 +115,12 @@ row_of town rows (Round divisor mult) = Some (round_row rows divisor mult)
 row_of town rows (Kc k of) = Some (kc_row town k of)
 row_of town rows item = None
 
--- a coefficient at a legal arc or the right side is above 2^20 in size
+-- the greatest size of a coefficient and of the right side of a rounding
+abbrev pub most_coefficient : ℕ
+most_coefficient = 2 ^ 20
+
+-- a coefficient at a legal arc or the right side is above that in size
 abbrev pub is_wide : Town → Row → Bool
-is_wide town row = not (nat_le (unsigned_abs row.right_side) 1048576 && list_all (λ arc. nat_le (unsigned_abs (row.coef arc)) 1048576) (legal_arcs town))
+is_wide town row =
+    not (nat_le (unsigned_abs row.right_side) most_coefficient
+    && list_all (λ arc. nat_le (unsigned_abs (row.coef arc)) most_coefficient) (legal_arcs town))

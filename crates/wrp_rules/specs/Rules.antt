@@ -13,51 +13,8 @@ use Rattle.wrp_rules.specs.declared.rule.Rule.{Rule}
 use Rattle.wrp_rules.specs.declared.rule.Rule.TheVariants as rules
 use Rattle.wrp_rules.specs.Sets.{leaves, crossing_demands, is_parted}
 use Rattle.wrp_rules.specs.Rows.{is_chain, is_wide, round_row}
-use Rattle.wrp_rules.specs.Nodes.{Node, Standing, node_at, bound_value, empty_value, is_open, is_below}
-
--- numbers of a strictly ascending list, each at most that
-abbrev pub is_ascending : ℕ → List ℕ → Bool
-is_ascending most [] = true
-is_ascending most (x ∷ xs) = nat_le x most && list_all (nat_lt x) xs && is_ascending most xs
-
--- a street, junction, row, arc, label or set number
-abbrev pub is_index : ℕ → Bool
-is_index n = nat_lt n (2 ^ 32)
-
--- a cost or the number of a node
-abbrev pub is_count : ℕ → Bool
-is_count n = nat_lt n (2 ^ 63)
-
--- from 1 on
-abbrev pub is_from_one : ℕ → ℕ → Bool
-is_from_one most n = nat_le 1 n && nat_le n most
-
--- a set of junctions
-abbrev pub is_set : List ℕ → Bool
-is_set set = is_ascending (2 ^ 32 - 1) set
-
--- pairs of ascending first numbers, the second numbers from 1 on
-abbrev pub are_pairs : ℕ → List (ℕ × ℕ) → Bool
-are_pairs most pairs = is_ascending (2 ^ 32 - 1) (map (λ q. q.0) pairs) && list_all (λ q. is_from_one most q.1) pairs
-
--- at most 4,096 multipliers of rows
-abbrev pub are_multipliers : ℕ → List (ℕ × ℕ) → Bool
-are_multipliers most pairs = are_pairs most pairs && nat_le (length pairs) 4096
-
--- the numbers of a record are in their ranges and orders
-abbrev pub has_number_rules : Record → Bool
-has_number_rules (Tour cost steps) = is_count cost && list_all (λ step. is_index step.street) steps
-has_number_rules (Conn r1 r2 set) = is_index r1 && is_index r2 && is_set set
-has_number_rules (Odd set) = is_set set
-has_number_rules (Round divisor mult) = is_from_one (2 ^ 20) divisor && are_multipliers (2 ^ 40) mult
-has_number_rules (Kc k of) = is_index k && list_all is_index of
-has_number_rules (Bound node den mult) = is_count node && is_from_one (2 ^ 40) den && are_multipliers (2 ^ 60) mult
-has_number_rules (Empty node mult) = is_count node && are_multipliers (2 ^ 60) mult
-has_number_rules (Apart node r1 r2 set) = is_count node && is_index r1 && is_index r2 && is_set set
-has_number_rules (Point node den numbers) = is_count node && is_from_one (2 ^ 60) den && are_pairs (2 ^ 72) numbers
-has_number_rules (Blind node) = is_count node
-has_number_rules (Split node arc k) = is_count node && is_index arc && is_index k
-has_number_rules (Labels labels streets) = list_all is_index labels && list_all is_index streets
+use Rattle.wrp_rules.specs.Contents.{has_number_rules}
+use Rattle.wrp_rules.specs.Nodes.{Node, Standing, node_at, bound_at, empty_value, is_open, is_below}
 
 abbrev pub is_labels : Record → Bool
 is_labels (Labels labels streets) = true
@@ -79,7 +36,8 @@ leads_to_split split item = false
 
 -- a Labels record stands alone
 abbrev pub is_alone : Standing → Record → Bool
-is_alone s item = if is_labels item then length s.records == 0 else not (list_any is_labels s.records)
+is_alone s item =
+    if is_labels item then length s.records == 0 else not (list_any is_labels s.records)
 
 -- there is room for one more cut
 abbrev pub has_room : Standing → Bool
@@ -88,6 +46,13 @@ has_room s = nat_lt (count_by is_cut s.records) 20000
 -- the numbers are below n
 abbrev pub all_below : ℕ → List ℕ → Bool
 all_below n xs = list_all (λ x. nat_lt x n) xs
+
+-- the streets and the junctions are there
+abbrev pub streets_are_there : Town → List ℕ → Bool
+streets_are_there town streets = all_below (length town.streets) streets
+
+abbrev pub junctions_are_there : Town → List ℕ → Bool
+junctions_are_there town set = all_below (length town.junctions) set
 
 -- the pairs name rows that are there
 abbrev pub rows_are_there : Standing → List (ℕ × ℕ) → Bool
@@ -106,34 +71,60 @@ number_at numbers arc = sum_by (λ q. cond (q.0 == arc) q.1 0) numbers
 -- each number is in the node's box, times the denominator
 abbrev pub is_in_box : Town → Node → ℕ → List (ℕ × ℕ) → Bool
 is_in_box town node den numbers =
-    list_all (λ arc. nat_le (node.lo arc * den) (number_at numbers arc) && nat_le (number_at numbers arc) (node.hi arc * den)) (legal_arcs town)
+    list_all (λ arc. nat_le (node.lo arc * den) (number_at numbers arc)
+    && nat_le (number_at numbers arc) (node.hi arc * den)) (legal_arcs town)
+
+-- the arcs with this end at junction j
+abbrev pub arcs_at : (ℕ → ℕ) → ℕ → List ℕ → List ℕ
+arcs_at end_of j arcs = filter (λ arc. end_of arc == j) arcs
 
 -- as much leaves each junction as enters it
 abbrev pub is_balanced : Town → List (ℕ × ℕ) → Bool
 is_balanced town numbers =
-    list_all (λ j. sum_by (number_at numbers) (filter (λ arc. tail_of town arc == j) (legal_arcs town))
-    == sum_by (number_at numbers) (filter (λ arc. head_of town arc == j) (legal_arcs town))) (junctions town)
+    list_all (λ j. sum_by (number_at numbers) (arcs_at (tail_of town) j (legal_arcs town))
+    == sum_by (number_at numbers) (arcs_at (head_of town) j (legal_arcs town))) (junctions town)
 
 -- the legal arcs of each demand have at least the denominator
 abbrev pub is_served : Town → ℕ → List (ℕ × ℕ) → Bool
-is_served town den numbers = list_all (λ demand. nat_le den (sum_by (number_at numbers) (filter (is_legal town) demand))) (demands town)
+is_served town den numbers =
+    list_all (λ demand. nat_le den (sum_by (number_at numbers) (filter (is_legal town) demand))) (demands town)
 
 -- what the numbers cost over the denominator, rounded up
 abbrev pub price_of : Town → ℕ → List (ℕ × ℕ) → ℤ
-price_of town den numbers = ceil_div (pos (sum_by (λ arc. cost_or_zero town arc * number_at numbers arc) (legal_arcs town))) den
+price_of town den numbers =
+    ceil_div (pos (sum_by (λ arc. cost_or_zero town arc * number_at numbers arc) (legal_arcs town))) den
 
 abbrev pub int_eq : ℤ → ℤ → Bool
 int_eq x y = int_le x y && int_le y x
 
 -- the arc has both ends at the label
 abbrev pub keeps_label : Town → List ℕ → ℕ → ℕ → Bool
-keeps_label town labels label arc = (slice_index labels (tail_of town arc) == label) && (slice_index labels (head_of town arc) == label)
+keeps_label town labels label arc =
+    (slice_index labels (tail_of town arc) == label) && (slice_index labels (head_of town arc) == label)
 
--- the street has a demand none of whose legal arcs has both ends at the label
+-- none of the demand's legal arcs has both ends at the label
+abbrev pub leaves_label : Town → List ℕ → ℕ → List ℕ → Bool
+leaves_label town labels label demand =
+    list_all (λ arc. not (is_legal town arc && keeps_label town labels label arc)) demand
+
+-- the street has such a demand
 abbrev pub breaks_label : Town → List ℕ → ℕ → ℕ → Bool
 breaks_label town labels label street =
-    option_map_or (λ s. list_any (λ demand. list_all (λ arc. not (is_legal town arc && keeps_label town labels label arc)) demand) (demands_at street s.need))
+    option_map_or (λ s. list_any (leaves_label town labels label) (demands_at street s.need))
     (slice_get town.streets street) false
+
+-- no higher label follows along the arc
+abbrev pub falls_along : Town → List ℕ → ℕ → Bool
+falls_along town labels arc =
+    nat_le (slice_index labels (head_of town arc)) (slice_index labels (tail_of town arc))
+
+-- multipliers give a higher bound than the node has
+abbrev pub raises_bound : Town → Standing → ℕ → ℕ → List (ℕ × ℕ) → Bool
+raises_bound town s node den mult = int_lt (node_at town s node).bound (bound_at town s node den mult)
+
+-- the number parts the range of uses of the arc in two
+abbrev pub parts_range : Node → ℕ → ℕ → Bool
+parts_range node arc k = nat_le (node.lo arc) k && nat_lt k (node.hi arc)
 
 -- a rule and whether it is kept; the first that isn't
 abbrev pub first_broken : List (Rule × Bool) → Option Rule
@@ -149,11 +140,11 @@ rules_of town s (Tour cost steps) =
     ∷ (rules.Cost, walk_cost town steps == cost)
     ∷ (rules.Dear, is_below (pos cost) s.upper) ∷ []
 rules_of town s (Conn r1 r2 set) =
-    (rules.Range, all_below (length town.streets) (r1 ∷ r2 ∷ []) && all_below (length town.junctions) set)
+    (rules.Range, streets_are_there town (r1 ∷ r2 ∷ []) && junctions_are_there town set)
     ∷ (rules.Cuts, has_room s)
     ∷ (rules.Cross, is_parted town r1 r2 set) ∷ []
 rules_of town s (Odd set) =
-    (rules.Range, all_below (length town.junctions) set)
+    (rules.Range, junctions_are_there town set)
     ∷ (rules.Cuts, has_room s)
     ∷ (rules.Even, not (crossing_demands town set % 2 == 0)) ∷ []
 rules_of town s (Round divisor mult) =
@@ -167,16 +158,20 @@ rules_of town s (Kc k of) =
 rules_of town s (Bound node den mult) =
     (rules.Range, node_is_there s node && rows_are_there s mult)
     ∷ (rules.Closed, node_is_open town s node)
-    ∷ (rules.Low, int_lt (node_at town s node).bound (bound_value town s.rows (node_at town s node) den mult)) ∷ []
+    ∷ (rules.Low, raises_bound town s node den mult) ∷ []
 rules_of town s (Empty node mult) =
     (rules.Range, node_is_there s node && rows_are_there s mult)
     ∷ (rules.Closed, node_is_open town s node)
     ∷ (rules.Low, int_lt (pos 0) (empty_value town s.rows (node_at town s node) mult)) ∷ []
 rules_of town s (Apart node r1 r2 set) =
-    (rules.Range, node_is_there s node && all_below (length town.streets) (r1 ∷ r2 ∷ []) && all_below (length town.junctions) set)
+    (rules.Range, node_is_there s node && streets_are_there town (r1 ∷ r2 ∷ []) && junctions_are_there town set)
     ∷ (rules.Closed, node_is_open town s node)
     ∷ (rules.Cross, is_parted town r1 r2 set)
-    ∷ (rules.Leak, list_all (λ arc. not (leaves town set arc) || ((node_at town s node).hi arc == 0)) (legal_arcs town)) ∷ []
+    ∷ (
+      rules.Leak,
+      list_all (λ arc. not (leaves town set arc) || ((node_at town s node).hi arc == 0))
+          (legal_arcs town),
+    ) ∷ []
 rules_of town s (Point node den numbers) =
     (rules.Range, node_is_there s node && list_all (λ q. is_legal town q.0) numbers)
     ∷ (rules.Closed, node_is_open town s node)
@@ -191,16 +186,22 @@ rules_of town s (Split node arc k) =
     (rules.Range, node_is_there s node && is_legal town arc)
     ∷ (rules.Closed, node_is_open town s node)
     ∷ (rules.Alone, option_map_or (leads_to_split node) (last_or None s.records) false)
-    ∷ (rules.Part, nat_le ((node_at town s node).lo arc) k && nat_lt k ((node_at town s node).hi arc)) ∷ []
+    ∷ (rules.Part, parts_range (node_at town s node) arc k) ∷ []
 rules_of town s (Labels labels streets) = (
   rules.Range,
   (length labels == length town.junctions) && nat_lt 0 (length streets)
-      && all_below (length streets) labels && all_below (length town.streets) streets,
+      && all_below (length streets) labels && streets_are_there town streets,
 )
-    ∷ (rules.Rise, list_all (λ arc. nat_le (slice_index labels (head_of town arc)) (slice_index labels (tail_of town arc))) (legal_arcs town))
-    ∷ (rules.Label, list_all (λ label. breaks_label town labels label (slice_index streets label)) labels) ∷ []
+    ∷ (rules.Rise, list_all (falls_along town labels) (legal_arcs town))
+    ∷ (rules.Label, list_all (λ label. breaks_label town labels label (slice_index streets label)) labels)
+    ∷ []
+
+-- the rules of every record, before those of its kind
+abbrev pub common_rules : Standing → Record → List (Rule × Bool) → List (Rule × Bool)
+common_rules s item others =
+    (rules.Number, has_number_rules item) ∷ (rules.Lonely, is_alone s item) ∷ others
 
 -- the first rule that a record breaks after a list of records, if it breaks one
 abbrev pub broken_rule : Town → Standing → Record → Option Rule
 broken_rule town s item =
-    first_broken ((rules.Number, has_number_rules item) ∷ (rules.Lonely, is_alone s item) ∷ rules_of town s item)
+    first_broken (common_rules s item (rules_of town s item))

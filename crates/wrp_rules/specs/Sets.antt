@@ -15,7 +15,8 @@ leaves town set arc = is_in set (tail_of town arc) && not (is_in set (head_of to
 
 -- the arc crosses the set: exactly one of its ends is in it
 abbrev pub crosses : Town → List ℕ → ℕ → Bool
-crosses town set arc = leaves town set arc || (not (is_in set (tail_of town arc)) && is_in set (head_of town arc))
+crosses town set arc =
+    leaves town set arc || (not (is_in set (tail_of town arc)) && is_in set (head_of town arc))
 
 -- an arc of the demand's street
 abbrev pub arc_at : List ℕ → ℕ
@@ -27,11 +28,14 @@ crossing_demands town set = count_by (λ demand. crosses town set (arc_at demand
 
 -- the street has both ends in the set, or none
 abbrev pub lies_in : Town → List ℕ → ℕ → Bool
-lies_in town set street = is_in set (tail_of town (forward_arc street)) && is_in set (head_of town (forward_arc street))
+lies_in town set street =
+    is_in set (tail_of town (forward_arc street)) && is_in set (head_of town (forward_arc street))
 
 abbrev pub lies_outside : Town → List ℕ → ℕ → Bool
-lies_outside town set street = not (is_in set (tail_of town (forward_arc street))) && not (is_in set (head_of town (forward_arc street)))
+lies_outside town set street =
+    not (is_in set (tail_of town (forward_arc street))) && not (is_in set (head_of town (forward_arc street)))
 
 -- two required streets, one in the set and one outside, so that each tour leaves the set
 abbrev pub is_parted : Town → ℕ → ℕ → List ℕ → Bool
-is_parted town r1 r2 set = is_required town r1 && is_required town r2 && lies_in town set r1 && lies_outside town set r2
+is_parted town r1 r2 set =
+    is_required town r1 && is_required town r2 && lies_in town set r1 && lies_outside town set r2

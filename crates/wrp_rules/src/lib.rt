@@ -1,9 +1,11 @@
-//! The records of a proof and its ends, what they stand for, and the rules that a valid list of records
-//! keeps.
+//! The records of a proof and its ends, how their lines are written, what they stand for, and the rules
+//! that a valid list of records keeps.
 #![tactic(auto)]
 
+mod layout;
 mod record;
 mod rule;
 
+pub use layout::{Kind, Range, Tail};
 pub use record::{End, Record};
 pub use rule::Rule;

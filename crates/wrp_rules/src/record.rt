@@ -2,8 +2,8 @@ use wrp_town::{List, Step};
 
 /// One record of a proof.
 ///
-/// Nodes, streets, junctions, arcs and rows are numbered from 0. Pairs join the number of a row, or in a
-/// `Point` of an arc, to a number above 0.
+/// Nodes, streets, junctions, arcs and rows are numbered from 0. Pairs join the number of a row, or
+/// in a `Point` of an arc, to a number above 0.
 #[derive(Debug, Drop, Clone, PartialEq, Eq)]
 pub enum Record {
     /// A tour of this cost.
@@ -11,13 +11,14 @@ pub enum Record {
         cost: u64,
         steps: List<Step>,
     },
-    /// A connectivity cut: the street `r1` lies in the set and the street `r2` outside, so a tour leaves it.
+    /// A connectivity cut: the street `r1` lies in the set and `r2` outside, so a tour leaves it.
     Conn {
         r1: u32,
         r2: u32,
         set: List<u32>,
     },
-    /// An odd cut: an odd number of demands cross the set, and a tour crosses it an even number of times.
+    /// An odd cut: an odd number of demands cross the set, and a tour crosses it an even number of
+    /// times.
     Odd {
         set: List<u32>,
     },

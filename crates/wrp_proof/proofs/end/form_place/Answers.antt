@@ -1,8 +1,8 @@
 use Rattle.std.proofs.Common.{arith, codes, ◌+◌, ◌-◌, length, drop, ap, sym, subst, ◌∙◌}
 use Rattle.std.proofs.lemmas.List.{take_all, length-drop}
-use Rattle.wrp_lines.specs.Parts.{are_two}
-use Rattle.wrp_lines.specs.Fronts.{IsLongestFront}
-use Rattle.wrp_lines.proofs.PartFronts.{digits_front}
+use Rattle.wrp_grammar.specs.Parts.{are_two}
+use Rattle.wrp_grammar.specs.Fronts.{IsLongestFront}
+use Rattle.wrp_grammar.proofs.PartFronts.{digits_front}
 use Rattle.wrp_proof.proofs.EndFronts.{shared-counted, optimal-case, unfinished-case, other-case}
 use Rattle.wrp_proof.proofs.end.form_place.Goals as goal
 

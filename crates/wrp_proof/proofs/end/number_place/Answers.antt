@@ -1,10 +1,10 @@
 use Rattle.std.proofs.Common.{arith, codes, ◌≡◌, ◌-◌, ◌∷◌, length, take, drop, ap, sym, ◌∙◌}
 use Rattle.std.proofs.lemmas.List.{take_all, take_at, length-drop, length-append}
-use Rattle.wrp_lines.specs.Parts.{is_count_part, number_of}
-use Rattle.wrp_lines.proofs.PartFronts.{digits_front}
+use Rattle.wrp_grammar.specs.Parts.{is_count_part, number_of}
+use Rattle.wrp_grammar.proofs.PartFronts.{digits_front}
 use Rattle.wrp_proof.proofs.EndFronts.{shared-counted}
 use Rattle.wrp_proof.proofs.EndNumbers.{optimal-number, unfinished-numbers, low-number, high-number, no-number}
-use Rattle.wrp_lines.proofs.Guards.{read-none, read-some}
+use Rattle.wrp_grammar.proofs.Guards.{read-none, read-some}
 use Rattle.wrp_proof.proofs.end.number_place.Goals as goal
 
 pub returns-then-shared-eq12-clause-first : goal.returns-then-shared-eq12-clause-first

@@ -1,6 +1,6 @@
 use Rattle.std.proofs.Common.{length, ap, arith}
 use Rattle.std.proofs.lemmas.Fmt.{decimal_digit}
-use Rattle.wrp_lines.proofs.Counts.{one-more-digit, few-digits}
+use Rattle.wrp_grammar.proofs.Counts.{one-more-digit, few-digits}
 use Rattle.wrp_proof.proofs.lengths.digits.Goals as goal
 
 pub overflow_add-count : goal.overflow_add-count

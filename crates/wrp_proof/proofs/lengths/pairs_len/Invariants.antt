@@ -1,6 +1,6 @@
 use Rattle.std.proofs.Common.{◌≡◌, ◌+◌, ◌*◌, ◌≤◌, map, length, drop}
 use Rattle.wrp_rules.specs.Lines.{pair_text}
-use Rattle.wrp_lines.proofs.Spacing.{spread}
+use Rattle.wrp_grammar.proofs.Spacing.{spread}
 use Rattle.wrp_proof.proofs.lengths.pairs_len.Given as goal
 
 abbrev pub invariant-loop-pair : goal.invariant-loop-pair

@@ -1,6 +1,6 @@
 use Rattle.std.proofs.Common.{◌≡◌, ◌+◌, ◌*◌, ◌≤◌, map, length, drop}
 use Rattle.wrp_rules.specs.Lines.{step_text}
-use Rattle.wrp_lines.proofs.Spacing.{spread}
+use Rattle.wrp_grammar.proofs.Spacing.{spread}
 use Rattle.wrp_proof.proofs.lengths.steps_len.Given as goal
 
 abbrev pub invariant-loop-step : goal.invariant-loop-step

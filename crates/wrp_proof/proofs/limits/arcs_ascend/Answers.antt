@@ -1,4 +1,4 @@
-use Rattle.wrp_lines.proofs.Climbs.{climbs-start}
+use Rattle.wrp_grammar.proofs.Climbs.{climbs-start}
 use Rattle.wrp_proof.proofs.limits.arcs_ascend.Goals as goal
 
 pub loop-pair-init : goal.loop-pair-init

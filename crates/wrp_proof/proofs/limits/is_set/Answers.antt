@@ -1,4 +1,4 @@
-use Rattle.wrp_lines.proofs.Climbs.{climbs-start}
+use Rattle.wrp_grammar.proofs.Climbs.{climbs-start}
 use Rattle.wrp_proof.proofs.limits.is_set.Goals as goal
 
 pub loop-number-init : goal.loop-number-init

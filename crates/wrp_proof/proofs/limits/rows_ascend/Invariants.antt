@@ -1,6 +1,6 @@
 use Rattle.std.proofs.Common.{◌≡◌, ◌-◌, ◌^◌, map, drop}
 use Rattle.wrp_rules.specs.Rules.{is_ascending}
-use Rattle.wrp_lines.proofs.Climbs.{climbs}
+use Rattle.wrp_grammar.proofs.Climbs.{climbs}
 use Rattle.wrp_proof.proofs.limits.rows_ascend.Given as goal
 
 abbrev pub invariant-loop-pair : goal.invariant-loop-pair

@@ -1,9 +1,9 @@
 use Rattle.std.proofs.Common.{arith, ◌≡◌, ◌∷◌, true, length, sym, ap, ◌∙◌}
 use Rattle.std.proofs.lemmas.Bool.{and_from, not-false}
-use Rattle.wrp_lines.specs.Parts.{is_spaced, parts_of}
-use Rattle.wrp_lines.specs.Shapes.{has_parts_shape}
-use Rattle.wrp_lines.specs.Shapes.{has_shape}
-use Rattle.wrp_lines.proofs.LineFronts.{empty-line}
+use Rattle.wrp_grammar.specs.Parts.{is_spaced, parts_of}
+use Rattle.wrp_grammar.specs.Shapes.{has_parts_shape}
+use Rattle.wrp_grammar.specs.Shapes.{has_shape}
+use Rattle.wrp_grammar.proofs.LineFronts.{empty-line}
 use Rattle.wrp_proof.proofs.NumberLaws.{unspelled}
 use Rattle.wrp_proof.proofs.reading.fault_of.Goals as goal
 

@@ -1,5 +1,5 @@
 use Rattle.std.proofs.Common.{sym, ◌∙◌}
-use Rattle.wrp_lines.proofs.LineFronts.{letter-alone, letter-other}
+use Rattle.wrp_grammar.proofs.LineFronts.{letter-alone, letter-other}
 use Rattle.wrp_proof.proofs.reading.letter_length.Goals as goal
 
 pub returns-then-is_record_letter-clause-front : goal.returns-then-is_record_letter-clause-front

@@ -1,7 +1,7 @@
 use Rattle.std.proofs.Common.{rules, ◌≡◌, ◌<◌, ◌++◌, ◌∷◌, [], ap, ◌∙◌, length, get_or, append_assoc}
 use Rattle.wrp_rules.specs.Lines.{line_of}
 use Rattle.wrp_rules.specs.Proofs.{ended}
-use Rattle.wrp_lines.proofs.Joins.{one-joined}
+use Rattle.wrp_grammar.proofs.Joins.{one-joined}
 use Rattle.wrp_proof.proofs.whole.with_records.Goals as goal
 
 pub loop-item-preserved : goal.loop-item-preserved

@@ -1,6 +1,6 @@
 use Rattle.std.proofs.Common.{rules, ◌≡◌, ◌<◌, ◌++◌, ◌∷◌, length, get_or}
 use Rattle.wrp_rules.specs.Lines.{pair_text}
-use Rattle.wrp_lines.proofs.Spread.{one-written}
+use Rattle.wrp_grammar.proofs.Spread.{one-written}
 use Rattle.wrp_proof.proofs.writing.with_multipliers.Goals as goal
 
 pub loop-row-preserved : goal.loop-row-preserved

@@ -1,6 +1,6 @@
 use Rattle.std.proofs.Common.{◌≡◌, ◌++◌, map, drop}
 use Rattle.wrp_rules.specs.Lines.{pair_text}
-use Rattle.wrp_lines.proofs.Spacing.{spread}
+use Rattle.wrp_grammar.proofs.Spacing.{spread}
 use Rattle.wrp_proof.proofs.writing.with_multipliers.Given as goal
 
 abbrev pub invariant-loop-row : goal.invariant-loop-row

@@ -1,6 +1,6 @@
 use Rattle.std.proofs.Common.{rules, ◌≡◌, ◌<◌, ◌++◌, ◌∷◌, length, get_or}
 use Rattle.std.specs.Fmt.{decimal}
-use Rattle.wrp_lines.proofs.Spread.{one-written}
+use Rattle.wrp_grammar.proofs.Spread.{one-written}
 use Rattle.wrp_proof.proofs.writing.with_numbers.Goals as goal
 
 pub loop-number-preserved : goal.loop-number-preserved

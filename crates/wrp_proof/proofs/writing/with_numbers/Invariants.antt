@@ -1,6 +1,6 @@
 use Rattle.std.proofs.Common.{◌≡◌, ◌++◌, map, drop}
 use Rattle.std.specs.Fmt.{decimal}
-use Rattle.wrp_lines.proofs.Spacing.{spread}
+use Rattle.wrp_grammar.proofs.Spacing.{spread}
 use Rattle.wrp_proof.proofs.writing.with_numbers.Given as goal
 
 abbrev pub invariant-loop-number : goal.invariant-loop-number

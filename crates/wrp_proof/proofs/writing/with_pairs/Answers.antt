@@ -1,6 +1,6 @@
 use Rattle.std.proofs.Common.{rules, ◌≡◌, ◌<◌, ◌++◌, ◌∷◌, length, get_or}
 use Rattle.wrp_rules.specs.Lines.{pair_text}
-use Rattle.wrp_lines.proofs.Spread.{one-written}
+use Rattle.wrp_grammar.proofs.Spread.{one-written}
 use Rattle.wrp_proof.proofs.writing.with_pairs.Goals as goal
 
 pub loop-arc-preserved : goal.loop-arc-preserved

@@ -2,7 +2,7 @@ use Rattle.std.proofs.Common.{rules, ◌≡◌, ◌<◌, ◌++◌, ◌∷◌, []
 use Rattle.std.specs.Fmt.{decimal}
 use Rattle.wrp_town.specs.declared.street.Step.{Step}
 use Rattle.wrp_rules.specs.Lines.{step_text}
-use Rattle.wrp_lines.proofs.Spread.{one-written}
+use Rattle.wrp_grammar.proofs.Spread.{one-written}
 use Rattle.wrp_proof.proofs.writing.with_steps.Goals as goal
 
 pub loop-step-preserved : goal.loop-step-preserved

@@ -1,8 +1,8 @@
 use Rattle.std.proofs.Common.{rules, ◌≡◌, ◌++◌, ◌∷◌, map, sym, ap, ◌∙◌, append-nil}
 use Rattle.std.specs.Fmt.{decimal}
 use Rattle.wrp_rules.specs.Lines.{line_of, pair_text, spaced}
-use Rattle.wrp_lines.proofs.Spacing.{spread}
-use Rattle.wrp_lines.proofs.Spread.{two_parts, three_parts}
+use Rattle.wrp_grammar.proofs.Spacing.{spread}
+use Rattle.wrp_grammar.proofs.Spread.{two_parts, three_parts}
 use Rattle.wrp_proof.proofs.writing.write_record.Goals as goal
 
 pub returns-in_ok-format-in-Conn : goal.returns-in_ok-format-in-Conn

@@ -1,0 +1,10 @@
+use Rattle.std.proofs.Common.{◌≤◌, length}
+use Rattle.wrp_grammar.specs.Numbers.{are_labels}
+use Rattle.wrp_grammar.proofs.FirstNumbers.{KeepsTo}
+use Rattle.wrp_grammar.proofs.ranges.indexes_number.Given as goal
+
+abbrev pub invariant-loop-part : goal.invariant-loop-part
+invariant-loop-part l = record { within : length l.left ≤ length l.line; keeps : KeepsTo are_labels are_labels l.line l.left }
+
+abbrev pub decreases-loop-part : goal.decreases-loop-part
+decreases-loop-part l = length l.left

@@ -1,0 +1,64 @@
+-- The first number of a line that breaks a rule.
+use Rattle.std.specs.Prelude.{codes, ◌≡◌, ℕ, ◌+◌, ◌-◌, Bool, true, false, ◌&&◌, ◌||◌, if◌then◌else◌, List, [], ◌∷◌, ◌++◌, length, Contains}
+use Rattle.std.specs.List.{list_all}
+use Rattle.wrp_rules.specs.declared.layout.Kind.{Kind}
+use Rattle.wrp_rules.specs.declared.layout.Range.{Range}
+use Rattle.wrp_rules.specs.declared.layout.Tail.{Tail}
+use Rattle.wrp_rules.specs.declared.layout.Tail.TheVariants.{Nothing, Steps, Set, Indexes, Multipliers, Pairs, Labels}
+use Rattle.wrp_rules.specs.Layouts.{layout_of}
+use Rattle.wrp_rules.specs.Ranges.{is_in_range}
+use Rattle.wrp_rules.specs.Lines.{spaced}
+use Rattle.wrp_grammar.specs.Parts.{parts_of, first_half, second_half, number_of, is_number, is_index_part, are_set_parts, is_step, are_multiplier_parts, are_pair_parts}
+use Rattle.wrp_grammar.specs.Shapes.{is_slash}
+
+-- a leading number that is written right and in its range
+abbrev pub is_range_part : Range → List ℕ → Bool
+is_range_part range part = is_number part && is_in_range range (number_of part)
+
+-- what follows the leading numbers keeps its rules
+abbrev pub tail_keeps_rules : Tail → List (List ℕ) → Bool
+tail_keeps_rules Nothing parts = true
+tail_keeps_rules Steps parts = list_all is_step parts
+tail_keeps_rules Set parts = are_set_parts parts
+tail_keeps_rules Indexes parts = list_all is_index_part parts
+tail_keeps_rules (Multipliers most) parts = are_multiplier_parts most parts
+tail_keeps_rules (Pairs most) parts = are_pair_parts most parts
+tail_keeps_rules Labels parts = list_all (λ part. is_slash part || is_index_part part) parts
+
+-- the first parts of a line keep the rules of numbers: they may be all of its parts or fewer
+abbrev pub keeps_rules : List Range → Tail → List (List ℕ) → Bool
+keeps_rules [] tail parts = tail_keeps_rules tail parts
+keeps_rules (range ∷ ranges) tail [] = true
+keeps_rules (range ∷ ranges) tail (part ∷ parts) = is_range_part range part && keeps_rules ranges tail parts
+
+-- the place in a part of its number that breaks a rule: that of the second number of a pair where the
+-- first one breaks none, so that the pair would keep the rules with 1 for its second number; else that
+-- of the first
+abbrev pub place_in : (List (List ℕ) → Bool) → List (List ℕ) → List ℕ → ℕ
+place_in keep before part =
+    if keep (before ++ (first_half part ++ codes ":1") ∷ []) then length part - length (second_half part) else 0
+
+-- the parts before this one keep the rules, and with it the rules are broken, whatever follows: there a
+-- number stands at this place
+pub record IsFirstBad (keep : List (List ℕ) → Bool) (left : List ℕ) (at : ℕ) : Type 0 where
+  pub before : List (List ℕ)
+  pub part : List ℕ
+  pub after : List (List ℕ)
+  pub parts : parts_of left ≡ before ++ part ∷ after
+  pub good : keep before ≡ true
+  pub bad : (more : List (List ℕ)) → keep (before ++ part ∷ more) ≡ false
+  pub place : at ≡ length (spaced [] before) + 1 + place_in keep before part
+
+-- where the rules are broken, the first number that breaks one stands at this place
+abbrev pub IsPlaceOfBad : (List (List ℕ) → Bool) → List ℕ → ℕ → Type 0
+IsPlaceOfBad keep left at = keep (parts_of left) ≡ false → IsFirstBad keep left at
+
+-- the first number of a line of one of these kinds that breaks a rule stands at this place
+pub record IsFirstBadNumber (kinds : List Kind) (line : List ℕ) (at : ℕ) : Type 0 where
+  pub kind : Kind
+  pub among : Contains kinds kind
+  pub left : List ℕ
+  pub text : line ≡ (layout_of kind).word ++ left
+  pub behind : ℕ
+  pub first : IsFirstBad (keeps_rules (layout_of kind).numbers (layout_of kind).tail) left behind
+  pub place : at ≡ length (layout_of kind).word + behind

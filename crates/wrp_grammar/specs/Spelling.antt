@@ -1,0 +1,86 @@
+-- The record and the end that a line spells, where its parts are written right and in their ranges.
+use Rattle.std.specs.Prelude.{◌≡◌, ℕ, ◌&&◌, if◌then◌else◌, List, [], ◌∷◌, map, take, drop, length, Option, None, Some}
+use Rattle.std.specs.List.{before_first, after_first}
+use Rattle.wrp_rules.specs.declared.layout.Kind.{Kind}
+use Rattle.wrp_rules.specs.declared.layout.Kind.TheVariants as kinds
+use Rattle.wrp_rules.specs.declared.layout.Tail.{Tail}
+use Rattle.wrp_rules.specs.declared.layout.Tail.TheVariants as tails
+use Rattle.wrp_rules.specs.declared.record.Record.{Record}
+use Rattle.wrp_rules.specs.declared.record.Record.TheVariants.{Tour, Conn, Odd, Round, Kc, Bound, Empty, Apart, Point, Blind, Split, Labels}
+use Rattle.wrp_rules.specs.declared.record.End.{End}
+use Rattle.wrp_rules.specs.declared.record.End.TheVariants.{Optimal, Infeasible, Unfinished}
+use Rattle.wrp_rules.specs.Layouts.{Layout, layout_of, record_kinds, end_kinds}
+use Rattle.wrp_rules.specs.Contents.{Items, NoItems, Steps, Numbers, Pairs, TwoLists, Content, content}
+use Rattle.wrp_grammar.specs.Parts.{parts_of, numbers_of, step_of, pair_of}
+use Rattle.wrp_grammar.specs.Shapes.{is_slash, is_in_layout}
+use Rattle.wrp_grammar.specs.Numbers.{keeps_rules}
+
+-- the items that parts spell
+abbrev pub items_of : Tail → List (List ℕ) → Items
+items_of tails.Nothing parts = NoItems
+items_of tails.Steps parts = Steps (map step_of parts)
+items_of (tails.Multipliers most) parts = Pairs (map pair_of parts)
+items_of (tails.Pairs most) parts = Pairs (map pair_of parts)
+items_of tails.Labels parts =
+    TwoLists (numbers_of (before_first is_slash parts)) (numbers_of (after_first is_slash parts))
+items_of tail parts = Numbers (numbers_of parts)
+
+-- what stands in the parts of a line of this kind
+abbrev pub content_of_parts : Kind → List (List ℕ) → Content
+content_of_parts kind parts =
+    content kind (numbers_of (take (length (layout_of kind).numbers) parts))
+    (items_of (layout_of kind).tail (drop (length (layout_of kind).numbers) parts))
+
+-- the parts behind the word of a line of this kind
+abbrev pub parts_behind : Kind → List ℕ → List (List ℕ)
+parts_behind kind line = parts_of (drop (length (layout_of kind).word) line)
+
+-- the line is in its layout, and its numbers keep the rules
+abbrev pub is_right : Kind → List ℕ → Bool
+is_right kind line =
+    is_in_layout (layout_of kind) line
+    && keeps_rules (layout_of kind).numbers (layout_of kind).tail (parts_behind kind line)
+
+-- what stands in a line of one of these kinds
+abbrev pub content_in : List Kind → List ℕ → Option Content
+content_in [] line = None
+content_in (kind ∷ kinds) line =
+    if is_right kind line then Some (content_of_parts kind (parts_behind kind line)) else content_in kinds line
+
+-- the record with this content
+abbrev pub record_with : Kind → List ℕ → Items → Option Record
+record_with kinds.Tour (cost ∷ []) (Steps steps) = Some (Tour cost steps)
+record_with kinds.Conn (r1 ∷ r2 ∷ []) (Numbers set) = Some (Conn r1 r2 set)
+record_with kinds.Odd [] (Numbers set) = Some (Odd set)
+record_with kinds.Round (divisor ∷ []) (Pairs mult) = Some (Round divisor mult)
+record_with kinds.Kc (k ∷ []) (Numbers of) = Some (Kc k of)
+record_with kinds.Bound (node ∷ den ∷ []) (Pairs mult) = Some (Bound node den mult)
+record_with kinds.Empty (node ∷ []) (Pairs mult) = Some (Empty node mult)
+record_with kinds.Apart (node ∷ r1 ∷ r2 ∷ []) (Numbers set) = Some (Apart node r1 r2 set)
+record_with kinds.Point (node ∷ den ∷ []) (Pairs numbers) = Some (Point node den numbers)
+record_with kinds.Blind (node ∷ []) NoItems = Some (Blind node)
+record_with kinds.Split (node ∷ arc ∷ k ∷ []) NoItems = Some (Split node arc k)
+record_with kinds.Labels [] (TwoLists labels streets) = Some (Labels labels streets)
+record_with kind numbers items = None
+
+-- the end with this content
+abbrev pub end_with : Kind → List ℕ → Items → Option End
+end_with kinds.Optimal (cost ∷ []) NoItems = Some (Optimal cost)
+end_with kinds.Infeasible [] NoItems = Some Infeasible
+end_with kinds.Unfinished (low ∷ high ∷ []) NoItems = Some (Unfinished low high)
+end_with kind numbers items = None
+
+-- the record that a line spells, and the end
+abbrev pub record_of_content : Option Content → Option Record
+record_of_content None = None
+record_of_content (Some c) = record_with c.kind c.numbers c.items
+
+abbrev pub end_of_content : Option Content → Option End
+end_of_content None = None
+end_of_content (Some c) = end_with c.kind c.numbers c.items
+
+unfoldable pub spelled : List ℕ → Option Record
+spelled line = record_of_content (content_in record_kinds line)
+
+unfoldable pub spelled_end : List ℕ → Option End
+spelled_end line = end_of_content (content_in end_kinds line)

@@ -1,6 +1,0 @@
-use Rattle.wrp_lines.specs.Parts.{parts_of}
-use Rattle.wrp_lines.proofs.SetLists.{rise-start}
-use Rattle.wrp_lines.proofs.numbers.are_ascending.Goals as goal
-
-pub loop-part-init : goal.loop-part-init
-loop-part-init c = rise-start (parts_of c.args.line.now)
