@@ -58,7 +58,8 @@ keep_rules tails.Set (Numbers set) = is_set set
 keep_rules tails.Indexes (Numbers numbers) = list_all is_index numbers
 keep_rules (tails.Multipliers most) (Pairs mult) = are_multipliers most mult
 keep_rules (tails.Pairs most) (Pairs pairs) = are_pairs most pairs
-keep_rules tails.Labels (TwoLists first second) = list_all is_index first && list_all is_index second
+keep_rules tails.Labels (TwoLists first second) =
+    list_all is_index first && list_all is_index second
 keep_rules tail items = false
 
 -- the numbers and items of a line keep the rules of its layout

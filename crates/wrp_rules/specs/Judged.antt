@@ -14,7 +14,8 @@ use Rattle.wrp_rules.specs.Rules.{node_is_there, rows_are_there, node_is_open, r
 -- no legal arc has a negative reduced cost
 abbrev pub has_plain_costs : Town → Standing → ℕ → ℕ → List (ℕ × ℕ) → Bool
 has_plain_costs town s node den mult =
-    list_all (λ arc. int_le (pos 0) (reduced_cost (program_at town s node) den mult arc)) (legal_arcs town)
+    list_all (λ arc. int_le (pos 0) (reduced_cost (program_at town s node) den mult arc))
+    (legal_arcs town)
 
 abbrev pub is_judged : Town → Standing → Record → Bool
 is_judged town s (Tour cost steps) = true

@@ -1,4 +1,4 @@
--- How each line of a proof is written: a word, leading numbers, each in its range, and what follows.
+-- How each line of a proof is written: a word, leading numbers in their ranges, and what follows.
 use Rattle.std.specs.Prelude.{codes, ℕ, ◌^◌, List, [], ◌∷◌}
 use Rattle.wrp_rules.specs.declared.layout.Kind.{Kind}
 use Rattle.wrp_rules.specs.declared.layout.Kind.TheVariants as kinds

@@ -1,4 +1,4 @@
--- What a list of records stands for: rows, nodes with boxes and bounds, and the cheapest tour so far.
+-- What a list of records stands for: rows, nodes with boxes and bounds, and the cheapest tour.
 use Rattle.std.specs.Prelude.{ℕ, zero, suc, ◌+◌, Bool, true, false, ◌&&◌, not, if◌then◌else◌, ◌==◌, min, ℤ, pos, int_lt, List, [], ◌∷◌, ◌++◌, length, slice_index_or, Option, None, Some}
 use Rattle.std.specs.Int.{int_min}
 use Rattle.std.specs.Option.{option_map, option_or, option_to_list, option_map_or}
@@ -105,7 +105,8 @@ changed change (suc i) (node ∷ nodes) = node ∷ changed change i nodes
 
 -- the nodes after one more record
 abbrev pub nodes_after : Town → Standing → Record → List Node
-nodes_after town s (Bound node den mult) = changed (with_bound (bound_at town s node den mult)) node s.nodes
+nodes_after town s (Bound node den mult) =
+    changed (with_bound (bound_at town s node den mult)) node s.nodes
 nodes_after town s (Empty node mult) = changed closed node s.nodes
 nodes_after town s (Apart node r1 r2 set) = changed closed node s.nodes
 nodes_after town s (Split node arc k) =

@@ -88,12 +88,14 @@ is_held town of i street =
 -- each set but the first and the last wholly holds a required street
 abbrev pub inner_sets_hold : Town → ℕ → List ℕ → Bool
 inner_sets_hold town k of =
-    list_all (λ i. list_any (is_held town of i) (range_with_len 0 (length town.streets))) (range_with_len 1 (k - 1))
+    list_all (λ i. list_any (is_held town of i) (range_with_len 0 (length town.streets)))
+    (range_with_len 1 (k - 1))
 
 -- both ends of the street are in one set
 abbrev pub keeps_set : List ℕ → Town → ℕ → Bool
 keeps_set of town street =
-    slice_index of (tail_of town (forward_arc street)) == slice_index of (head_of town (forward_arc street))
+    slice_index of (tail_of town (forward_arc street))
+    == slice_index of (head_of town (forward_arc street))
 
 -- no required street joins two different sets other than the first and the last
 abbrev pub streets_keep_sets : Town → ℕ → List ℕ → Bool

@@ -54,6 +54,11 @@ streets_are_there town streets = all_below (length town.streets) streets
 abbrev pub junctions_are_there : Town → List ℕ → Bool
 junctions_are_there town set = all_below (length town.junctions) set
 
+-- a set number from 0 to k for each junction
+abbrev pub is_partition : Town → ℕ → List ℕ → Bool
+is_partition town k of =
+    (length of == length town.junctions) && nat_le 3 k && list_all (λ i. nat_le i k) of
+
 -- the pairs name rows that are there
 abbrev pub rows_are_there : Standing → List (ℕ × ℕ) → Bool
 rows_are_there s mult = list_all (λ q. nat_lt q.0 (length s.rows)) mult
@@ -87,12 +92,14 @@ is_balanced town numbers =
 -- the legal arcs of each demand have at least the denominator
 abbrev pub is_served : Town → ℕ → List (ℕ × ℕ) → Bool
 is_served town den numbers =
-    list_all (λ demand. nat_le den (sum_by (number_at numbers) (filter (is_legal town) demand))) (demands town)
+    list_all (λ demand. nat_le den (sum_by (number_at numbers) (filter (is_legal town) demand)))
+    (demands town)
 
 -- what the numbers cost over the denominator, rounded up
 abbrev pub price_of : Town → ℕ → List (ℕ × ℕ) → ℤ
 price_of town den numbers =
-    ceil_div (pos (sum_by (λ arc. cost_or_zero town arc * number_at numbers arc) (legal_arcs town))) den
+    ceil_div (pos (sum_by (λ arc. cost_or_zero town arc * number_at numbers arc) (legal_arcs town)))
+    den
 
 abbrev pub int_eq : ℤ → ℤ → Bool
 int_eq x y = int_le x y && int_le y x
@@ -100,7 +107,8 @@ int_eq x y = int_le x y && int_le y x
 -- the arc has both ends at the label
 abbrev pub keeps_label : Town → List ℕ → ℕ → ℕ → Bool
 keeps_label town labels label arc =
-    (slice_index labels (tail_of town arc) == label) && (slice_index labels (head_of town arc) == label)
+    (slice_index labels (tail_of town arc) == label)
+    && (slice_index labels (head_of town arc) == label)
 
 -- none of the demand's legal arcs has both ends at the label
 abbrev pub leaves_label : Town → List ℕ → ℕ → List ℕ → Bool
@@ -120,7 +128,8 @@ falls_along town labels arc =
 
 -- multipliers give a higher bound than the node has
 abbrev pub raises_bound : Town → Standing → ℕ → ℕ → List (ℕ × ℕ) → Bool
-raises_bound town s node den mult = int_lt (node_at town s node).bound (bound_at town s node den mult)
+raises_bound town s node den mult =
+    int_lt (node_at town s node).bound (bound_at town s node den mult)
 
 -- the number parts the range of uses of the arc in two
 abbrev pub parts_range : Node → ℕ → ℕ → Bool
@@ -152,7 +161,7 @@ rules_of town s (Round divisor mult) =
     ∷ (rules.Cuts, has_room s)
     ∷ (rules.Wide, not (is_wide town (round_row s.rows divisor mult))) ∷ []
 rules_of town s (Kc k of) =
-    (rules.Range, (length of == length town.junctions) && nat_le 3 k && list_all (λ i. nat_le i k) of)
+    (rules.Range, is_partition town k of)
     ∷ (rules.Cuts, has_room s)
     ∷ (rules.Chain, is_chain town k of) ∷ []
 rules_of town s (Bound node den mult) =
@@ -163,8 +172,11 @@ rules_of town s (Empty node mult) =
     (rules.Range, node_is_there s node && rows_are_there s mult)
     ∷ (rules.Closed, node_is_open town s node)
     ∷ (rules.Low, int_lt (pos 0) (empty_value town s.rows (node_at town s node) mult)) ∷ []
-rules_of town s (Apart node r1 r2 set) =
-    (rules.Range, node_is_there s node && streets_are_there town (r1 ∷ r2 ∷ []) && junctions_are_there town set)
+rules_of town s (Apart node r1 r2 set) = (
+  rules.Range,
+  node_is_there s node && streets_are_there town (r1 ∷ r2 ∷ [])
+      && junctions_are_there town set,
+)
     ∷ (rules.Closed, node_is_open town s node)
     ∷ (rules.Cross, is_parted town r1 r2 set)
     ∷ (
@@ -193,8 +205,11 @@ rules_of town s (Labels labels streets) = (
       && all_below (length streets) labels && streets_are_there town streets,
 )
     ∷ (rules.Rise, list_all (falls_along town labels) (legal_arcs town))
-    ∷ (rules.Label, list_all (λ label. breaks_label town labels label (slice_index streets label)) labels)
-    ∷ []
+    ∷ (
+      rules.Label,
+      list_all (λ label. breaks_label town labels label (slice_index streets label))
+          labels,
+    ) ∷ []
 
 -- the rules of every record, before those of its kind
 abbrev pub common_rules : Standing → Record → List (Rule × Bool) → List (Rule × Bool)

@@ -33,7 +33,8 @@ lies_in town set street =
 
 abbrev pub lies_outside : Town → List ℕ → ℕ → Bool
 lies_outside town set street =
-    not (is_in set (tail_of town (forward_arc street))) && not (is_in set (head_of town (forward_arc street)))
+    not (is_in set (tail_of town (forward_arc street)))
+    && not (is_in set (head_of town (forward_arc street)))
 
 -- two required streets, one in the set and one outside, so that each tour leaves the set
 abbrev pub is_parted : Town → ℕ → ℕ → List ℕ → Bool
