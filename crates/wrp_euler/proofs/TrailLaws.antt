@@ -12,7 +12,7 @@ use Rattle.wrp_town.proofs.TownLaws.{legal_below, tail_of-below, head_of-below}
 use Rattle.wrp_town.proofs.WalkLaws.{leads-push, leads-push_is, leads-from_LeadsBy}
 use Rattle.wrp_graph.specs.Stars.{out_of, into}
 use Rattle.wrp_euler.specs.declared.trail.Trail.{Trail}
-use Rattle.wrp_euler.specs.Circuits.{AreBalanced, leaving, entering}
+use Rattle.wrp_graph.specs.Balances.{AreBalanced, leaving, entering}
 use Rattle.wrp_euler.specs.Trails.{IsTrail, GoesOn, GoesBack, IsOver, Turns, IsPiece}
 use Rattle.wrp_euler.proofs.StarSums.{sum_by_plus, sum_by_same}
 use Rattle.wrp_euler.proofs.WalkCounts.{count_push, count_reverse, reverse_push, walk_balance}
@@ -58,7 +58,7 @@ run_begins town counts base trail is same left path done = record {
 
 -- ---- a turn on
 
-one_less : (left : List ℕ) (b arc : ℕ) → b < length left → 0 < slice_index left b
+pub one_less : (left : List ℕ) (b arc : ℕ) → b < length left → 0 < slice_index left b
     → slice_index (slice_set left b (slice_index left b - 1)) arc + cond (b == arc) 1 0 ≡ slice_index left arc
 one_less left b arc below more =
     elim (cases_eq b arc) [

@@ -1,24 +1,16 @@
 -- Counts of the traversals of arcs, and the closed walks with these counts.
 use Rattle.std.specs.Prelude.{◌≡◌, ℕ, ◌*◌, ◌<◌, Bool, true, false, nat_lt, List, length, slice_index}
-use Rattle.std.specs.List.{sum_by}
 use Rattle.wrp_town.specs.declared.street.Step.{Step}
 use Rattle.wrp_town.specs.declared.town.Town.{Town}
 use Rattle.wrp_town.specs.Arcs.{tail_of, is_legal}
 use Rattle.wrp_town.specs.Walks.{is_closed_walk, count_of}
-use Rattle.wrp_graph.specs.Stars.{out_of, into}
+use Rattle.wrp_graph.specs.Balances.{leaving, entering, AreBalanced}
 use Rattle.wrp_graph.specs.Pieces.{Joined}
 
 -- a count for each arc, none on an illegal one
 pub record AreCounts (town : Town) (counts : List ℕ) : Type 0 where
   pub each : length counts ≡ 2 * length town.streets
   pub legal : (arc : ℕ) → is_legal town arc ≡ false → slice_index counts arc ≡ 0
-
--- how many traversals leave a junction, and how many enter it
-abbrev pub leaving : Town → List ℕ → ℕ → ℕ
-leaving town counts j = sum_by (slice_index counts) (out_of town j)
-
-abbrev pub entering : Town → List ℕ → ℕ → ℕ
-entering town counts j = sum_by (slice_index counts) (into town j)
 
 -- the arc is traversed
 abbrev pub is_used : List ℕ → ℕ → Bool
@@ -33,9 +25,9 @@ pub record IsCircuit (town : Town) (counts : List ℕ) (steps : List Step) : Typ
   pub closed : is_closed_walk town steps ≡ true
   pub counted : (arc : ℕ) → count_of steps arc ≡ slice_index counts arc
 
--- every junction is left as often as it is entered
-abbrev pub AreBalanced : Town → List ℕ → Type 0
-AreBalanced town counts = (j : ℕ) → j < length town.junctions → leaving town counts j ≡ entering town counts j
+-- some closed walk does
+abbrev pub HasCircuit : Town → List ℕ → Type 0
+HasCircuit town counts = (steps : List Step) × IsCircuit town counts steps
 
 -- the arcs that are traversed are one piece
 abbrev pub AreOnePiece : Town → List ℕ → Type 0

@@ -6,7 +6,7 @@ use Rattle.wrp_town.specs.Arcs.{arc_of, tail_of, head_of, is_legal}
 use Rattle.wrp_town.specs.Walks.{leads, count_of}
 use Rattle.wrp_graph.specs.Stars.{out_of}
 use Rattle.wrp_euler.specs.declared.trail.Trail.{Trail}
-use Rattle.wrp_euler.specs.Circuits.{leaving}
+use Rattle.wrp_graph.specs.Balances.{leaving}
 
 -- a legal arc that begins at the junction is left
 pub record IsOpen (town : Town) (left : List ℕ) (at arc : ℕ) : Type 0 where

@@ -1,23 +1,28 @@
 //! A closed walk that traverses each arc a given number of times.
 ghost use Rattle.std.specs.Prelude.{◌≡◌, ℕ, ◌+◌, ◌*◌, ◌^◌, ◌<◌, ◌≤◌, length, sum, IfOk, IfErr, MatchOption, slice_index};
 ghost use Rattle.std.specs.List.{sum_by};
-ghost use Rattle.wrp_euler.specs.Circuits.{AreCounts, AreBalanced, AreOnePiece, AreNone, IsCircuit, IsLeastUsed, IsUnbalanced};
+ghost use Rattle.wrp_graph.specs.Balances.{AreBalanced};
+ghost use Rattle.wrp_euler.specs.Circuits.{AreCounts, AreOnePiece, AreNone, IsCircuit, IsLeastUsed, IsUnbalanced};
 ghost use Rattle.wrp_euler.specs.Faults.{IsFaultOf};
 
 use crate::trail::Trail;
 use std::alloc::{AllocError, Global};
+use thiserror::Error;
 use wrp_graph::Graph;
 use wrp_town::{List, Step};
 
 /// Why counts have no circuit.
-#[derive(Clone, Copy, Debug, PartialEq, Eq)]
+#[derive(Clone, Copy, Debug, PartialEq, Eq, Error)]
 pub enum CircuitFault {
     /// The least junction that as many traversals do not leave as enter.
+    #[error("junction {junction} is not balanced")]
     Unbalanced { junction: u32 },
     /// All junctions are balanced, and the arcs that are traversed are not one piece: the least of them,
     /// and the least outside its piece.
+    #[error("arcs {first} and {other} are in two pieces")]
     Apart { first: u32, other: u32 },
     /// Want of memory.
+    #[error("no memory")]
     Memory,
 }
 

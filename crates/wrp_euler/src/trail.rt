@@ -2,7 +2,8 @@
 ghost use Rattle.std.specs.Prelude.{◌≡◌, ℕ, ◌+◌, ◌-◌, ◌*◌, ◌<◌, ◌≤◌, List, [], ◌∷◌, ◌++◌, length, IfOk, OnOk, MatchOption, slice_index, slice_set};
 ghost use Rattle.wrp_town.specs.Arcs.{arc_of, is_legal, tail_of, head_of};
 ghost use Rattle.wrp_graph.specs.Stars.{out_of};
-ghost use Rattle.wrp_euler.specs.Circuits.{AreCounts, AreBalanced, leaving};
+ghost use Rattle.wrp_graph.specs.Balances.{AreBalanced, leaving};
+ghost use Rattle.wrp_euler.specs.Circuits.{AreCounts};
 ghost use Rattle.wrp_euler.specs.Trails.{IsOpen, ArePlaces, IsTrail, GoesOn, GoesBack, Turns, IsPiece};
 
 use std::alloc::{AllocError, Global};
