@@ -204,14 +204,17 @@ spent_walk (suc n) town left i j few sized there for_walk =
 piece_there : (town : Town) (counts : List ℕ) (base : ℕ) → length counts ≡ 2 * length town.streets → AreBalanced town counts → base < length town.junctions
     → (left : List ℕ) × (done : List Step) × IsPiece town counts base left done
 piece_there town counts base sized balanced there =
-    let walk = spent_walk (suc (sum counts)) town counts base base (omega arith) sized there (λ k inside. ap (λ n. n + cond (base == k) 1 0) (balanced k inside)) in
-    (walk.rest, reverse walk.steps, record {
-      sized = walk.sized;
-      closed = subst (λ xs. leads town base xs base ≡ true) (sym (reverse-reverse walk.steps)) walk.goes;
-      counted = λ arc. ap (λ n. slice_index walk.rest arc + n) (count_reverse walk.steps arc) ∙ walk.counted arc;
-      base_spent = walk.first_spent;
-      heads_spent = λ arc more. walk.heads_spent arc (omega (arith, count_reverse walk.steps arc));
-    })
+    let walk = spent_walk (suc (sum counts)) town counts base base (omega arith) sized there (λ k inside. ap (λ n. n + cond (base == k) 1 0) (balanced k inside)) in (
+      walk.rest,
+      reverse walk.steps,
+      record {
+        sized = walk.sized;
+        closed = subst (λ xs. leads town base xs base ≡ true) (sym (reverse-reverse walk.steps)) walk.goes;
+        counted = λ arc. ap (λ n. slice_index walk.rest arc + n) (count_reverse walk.steps arc) ∙ walk.counted arc;
+        base_spent = walk.first_spent;
+        heads_spent = λ arc more. walk.heads_spent arc (omega (arith, count_reverse walk.steps arc));
+      },
+    )
 
 -- the piece of an arc that is traversed is all
 circuit_of_piece : (town : Town) (counts left : List ℕ) (done : List Step) (first : ℕ) → AreCounts town counts → AreBalanced town counts → AreOnePiece town counts → 0 < slice_index counts first

@@ -18,7 +18,8 @@ is_used counts arc = nat_lt 0 (slice_index counts arc)
 
 -- two arcs are in one piece where arcs that are traversed join their tails
 abbrev pub AreInOnePiece : Town → List ℕ → ℕ → ℕ → Type 0
-AreInOnePiece town counts first second = Joined town (is_used counts) (tail_of town first) (tail_of town second)
+AreInOnePiece town counts first second =
+    Joined town (is_used counts) (tail_of town first) (tail_of town second)
 
 -- a closed walk that uses each arc exactly its count of times
 pub record IsCircuit (town : Town) (counts : List ℕ) (steps : List Step) : Type 0 where
@@ -31,7 +32,9 @@ HasCircuit town counts = (steps : List Step) × IsCircuit town counts steps
 
 -- the arcs that are traversed are one piece
 abbrev pub AreOnePiece : Town → List ℕ → Type 0
-AreOnePiece town counts = (first second : ℕ) → is_used counts first ≡ true → is_used counts second ≡ true → AreInOnePiece town counts first second
+AreOnePiece town counts =
+    (first second : ℕ) → is_used counts first ≡ true → is_used counts second ≡ true
+    → AreInOnePiece town counts first second
 
 -- the least arc that is traversed
 pub record IsLeastUsed (counts : List ℕ) (arc : ℕ) : Type 0 where
@@ -49,12 +52,13 @@ pub record IsUnbalanced (town : Town) (counts : List ℕ) (junction : ℕ) : Typ
   pub differs : (leaving town counts junction ≡ entering town counts junction) → ⊥
   pub least : (j : ℕ) → j < junction → leaving town counts j ≡ entering town counts j
 
--- every junction is balanced, and the second arc is the least one outside the piece of the first, which is the
--- least of all that are traversed
+-- every junction is balanced, and the second arc is the least one outside the piece of the first, which
+-- is the least of all that are traversed
 pub record AreApart (town : Town) (counts : List ℕ) (first other : ℕ) : Type 0 where
   pub balanced : AreBalanced town counts
   pub first_used : is_used counts first ≡ true
   pub first_least : (arc : ℕ) → arc < first → is_used counts arc ≡ false
   pub other_used : is_used counts other ≡ true
   pub other_apart : AreInOnePiece town counts first other → ⊥
-  pub other_least : (arc : ℕ) → arc < other → is_used counts arc ≡ true → AreInOnePiece town counts first arc
+  pub other_least : (arc : ℕ) → arc < other → is_used counts arc ≡ true
+      → AreInOnePiece town counts first arc

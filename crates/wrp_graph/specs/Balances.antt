@@ -13,4 +13,5 @@ entering town counts j = sum_by (slice_index counts) (into town j)
 
 -- every junction is left as often as it is entered
 abbrev pub AreBalanced : Town → List ℕ → Type 0
-AreBalanced town counts = (j : ℕ) → j < length town.junctions → leaving town counts j ≡ entering town counts j
+AreBalanced town counts =
+    (j : ℕ) → j < length town.junctions → leaving town counts j ≡ entering town counts j
