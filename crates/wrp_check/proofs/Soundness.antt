@@ -22,7 +22,7 @@ use Rattle.wrp_proof.specs.Ends.{is_later_end, has_end_shape, spelled_end}
 use Rattle.wrp_rules.specs.Proofs.{Version, version_1, version_2, ended, record_lines, IsProofBy, IsProof}
 use Rattle.wrp_proof.proofs.SpelledLaws.{spelled_viewed, spelled-end_line, judged-passes}
 use Rattle.wrp_laws.specs.Ends.{EndHolds}
-use Rattle.wrp_laws.proofs.PlainEnds.{proved_end}
+use Rattle.wrp_laws.proofs.JudgedEnds.{proved_end}
 use Rattle.wrp_check.specs.Streams.{most_bytes}
 use Rattle.wrp_check.specs.Verdicts.{Verdict, Accepted, Refused, Long, unless, judged_record, judged_line, agreeing_end, judged_end, is_end, is_long, end_verdict, record_verdict, verdict_from, limit_of, version_verdict, first_verdict, over_lines, verdict}
 use Rattle.wrp_check.specs.Accepted.{IsJudgedProof}

@@ -4,3 +4,4 @@ mod WalkCounts
 mod Places
 mod TrailLaws
 mod PieceLaws
+mod SpentWalks

@@ -11,10 +11,11 @@ use Rattle.wrp_town.proofs.TownLaws.{legal_below, head_of-below}
 use Rattle.wrp_town.proofs.WalkLaws.{closed-from_leads, leads-from_closed}
 use Rattle.wrp_graph.specs.Stars.{out_of, into}
 use Rattle.wrp_graph.specs.Pieces.{Joined}
-use Rattle.wrp_euler.specs.Circuits.{AreCounts, AreBalanced, AreOnePiece, AreNone, AreApart, IsCircuit, IsLeastUsed, is_used, leaving, entering}
+use Rattle.wrp_graph.specs.Balances.{AreBalanced, leaving, entering}
+use Rattle.wrp_euler.specs.Circuits.{AreCounts, AreOnePiece, AreNone, AreApart, IsCircuit, IsLeastUsed, is_used}
 use Rattle.wrp_euler.specs.Trails.{IsPiece}
-use Rattle.wrp_euler.proofs.StarSums.{sum_by_plus, sum_by_same, star_term}
-use Rattle.wrp_euler.proofs.WalkCounts.{count_reverse, walk_balance, walk_tails, walk_joins}
+use Rattle.wrp_euler.proofs.StarSums.{star_term}
+use Rattle.wrp_euler.proofs.WalkCounts.{count_reverse, walked_sum, walk_balance, walk_tails, walk_joins}
 use Rattle.wrp_graph.proofs.Joins.{joined_trans, joined_turned, joined_keeps}
 
 -- ---- counts
@@ -26,7 +27,7 @@ pub used_legal : (town : Town) (counts : List ℕ) → AreCounts town counts →
 used_legal town counts are arc is = true_from_ne_false (is_legal town arc) (λ not. omega (arith, are.legal arc not, used_more counts arc is))
 
 -- nothing is left of an arc that leaves, or enters, a junction where none that does is left
-spent_out : (town : Town) (left : List ℕ) (j arc : ℕ) → leaving town left j ≡ 0 → is_legal town arc ≡ true → tail_of town arc ≡ j → slice_index left arc ≡ 0
+pub spent_out : (town : Town) (left : List ℕ) (j arc : ℕ) → leaving town left j ≡ 0 → is_legal town arc ≡ true → tail_of town arc ≡ j → slice_index left arc ≡ 0
 spent_out town left j arc spent legal begins =
     omega (arith, spent, star_term (is_legal town) (λ a. tail_of town a == j) (2 * length town.streets) (slice_index left) arc (legal_below town arc legal) legal (eq-eqb (tail_of town arc) j begins))
 
@@ -50,13 +51,10 @@ module _ (town : Town) (counts : List ℕ) (base : ℕ) (left : List ℕ) (done 
       omega (arith, balanced j below, parts (out_of town j), parts (into town j), walk_balance town base (reverse done) base j piece.closed)
     where
       parts : (arcs : List ℕ) → sum_by (slice_index left) arcs + sum_by (count_of (reverse done)) arcs ≡ sum_by (slice_index counts) arcs
-      parts arcs =
-          sym (sum_by_plus (slice_index left) (count_of (reverse done)) arcs)
-          ∙ sum_by_same (λ arc. slice_index left arc + count_of (reverse done) arc) (slice_index counts) arcs
-          (λ arc. omega (arith, count_reverse done arc, piece.counted arc))
+      parts arcs = walked_sum left counts (reverse done) arcs (λ arc. omega (arith, count_reverse done arc, piece.counted arc))
 
   -- no arc is left at a junction that is joined with the base
-  joined_spent : AreCounts town counts → AreBalanced town counts → (j : ℕ) → Joined town (is_used counts) base j → leaving town left j ≡ 0
+  pub joined_spent : AreCounts town counts → AreBalanced town counts → (j : ℕ) → Joined town (is_used counts) base j → leaving town left j ≡ 0
   joined_spent are balanced j joined = joined_keeps (λ k. leaving town left k ≡ 0) town (is_used counts) (λ arc below. on arc) (λ arc below. back arc) base j joined piece.base_spent
     where
       on : (arc : ℕ) → is_used counts arc ≡ true → leaving town left (tail_of town arc) ≡ 0 → leaving town left (head_of town arc) ≡ 0

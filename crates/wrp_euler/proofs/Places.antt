@@ -5,7 +5,7 @@ use Rattle.std.proofs.lemmas.Bool.{cases_lt, eqb-true}
 use Rattle.wrp_town.specs.declared.town.Town.{Town}
 use Rattle.wrp_town.specs.Arcs.{is_legal, tail_of}
 use Rattle.wrp_graph.specs.Stars.{out_of}
-use Rattle.wrp_euler.specs.Circuits.{leaving}
+use Rattle.wrp_graph.specs.Balances.{leaving}
 use Rattle.wrp_euler.specs.Trails.{IsOpen, ArePlaces}
 use Rattle.wrp_euler.proofs.StarSums.{star_first, star_second, star_none}
 

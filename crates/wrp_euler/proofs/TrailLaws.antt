@@ -12,8 +12,8 @@ use Rattle.wrp_town.proofs.TownLaws.{legal_below, tail_of-below, head_of-below}
 use Rattle.wrp_town.proofs.WalkLaws.{leads-push, leads-push_is, leads-from_LeadsBy}
 use Rattle.wrp_graph.specs.Stars.{out_of, into}
 use Rattle.wrp_euler.specs.declared.trail.Trail.{Trail}
-use Rattle.wrp_euler.specs.Circuits.{AreBalanced, leaving, entering}
-use Rattle.wrp_euler.specs.Trails.{IsTrail, GoesOn, GoesBack, IsOver, Turns, IsPiece}
+use Rattle.wrp_graph.specs.Balances.{AreBalanced, leaving, entering}
+use Rattle.wrp_euler.specs.Trails.{IsTrail, IsStart, GoesOn, GoesBack, IsOver, Turns, IsPiece}
 use Rattle.wrp_euler.proofs.StarSums.{sum_by_plus, sum_by_same}
 use Rattle.wrp_euler.proofs.WalkCounts.{count_push, count_reverse, reverse_push, walk_balance}
 
@@ -45,20 +45,19 @@ pub record IsRun (town : Town) (counts : List ℕ) (base : ℕ) (trail : Trail) 
   pub returns : leads town met (reverse trail.done.items) base ≡ true
   pub spent : (arc : ℕ) → 0 < count_of trail.done.items arc → leaving town trail.left.items (head_of town arc) ≡ 0
 
-pub run_begins : (town : Town) (counts : List ℕ) (base : ℕ) (trail : Trail) → IsTrail town trail → trail.base ≡ base
-    → trail.left.items ≡ counts → trail.path.items ≡ [] → trail.done.items ≡ [] → IsRun town counts base trail
-run_begins town counts base trail is same left path done = record {
-  kept = is;
-  begins = same;
-  counted = λ arc. omega (arith, ap (λ xs. slice_index xs arc) left, ap (λ xs. count_of xs arc) path, ap (λ xs. count_of xs arc) done);
+pub run_begins : (town : Town) (counts : List ℕ) (base : ℕ) (trail : Trail) → IsStart town counts base trail → IsRun town counts base trail
+run_begins town counts base trail is = record {
+  kept = is.kept;
+  begins = is.begins;
+  counted = λ arc. omega (arith, ap (λ xs. slice_index xs arc) is.left, ap (λ xs. count_of xs arc) is.path, ap (λ xs. count_of xs arc) is.done);
   met = base;
-  returns = subst (λ xs. leads town base (reverse xs) base ≡ true) (sym done) (eq-eqb base base refl);
-  spent = λ arc more. absurd (omega (arith, ap (λ xs. count_of xs arc) done));
+  returns = subst (λ xs. leads town base (reverse xs) base ≡ true) (sym is.done) (eq-eqb base base refl);
+  spent = λ arc more. absurd (omega (arith, ap (λ xs. count_of xs arc) is.done));
 }
 
 -- ---- a turn on
 
-one_less : (left : List ℕ) (b arc : ℕ) → b < length left → 0 < slice_index left b
+pub one_less : (left : List ℕ) (b arc : ℕ) → b < length left → 0 < slice_index left b
     → slice_index (slice_set left b (slice_index left b - 1)) arc + cond (b == arc) 1 0 ≡ slice_index left arc
 one_less left b arc below more =
     elim (cases_eq b arc) [

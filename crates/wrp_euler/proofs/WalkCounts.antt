@@ -1,5 +1,6 @@
 -- What the counts of a walk say: how often it leaves and enters each junction, and which junctions it joins.
 use Rattle.std.proofs.Common.{◌≡◌, ℕ, ◌+◌, ◌*◌, ◌<◌, Bool, true, cond, ◌==◌, List, [], ◌∷◌, ◌++◌, reverse, length, ap, refl, sym, ◌∙◌, subst, inl, inr, arith, eq-eqb}
+use Rattle.std.specs.Prelude.{slice_index}
 use Rattle.std.specs.List.{sum_by}
 use Rattle.std.proofs.lemmas.Bool.{eqb-true, cases_eq, ne_eqb}
 use Rattle.std.proofs.lemmas.List.{reverse-append}
@@ -11,7 +12,7 @@ use Rattle.wrp_town.proofs.TownLaws.{legal_below}
 use Rattle.wrp_town.proofs.WalkLaws.{LeadsBy-from_leads, count_of-cons, count_of-append}
 use Rattle.wrp_graph.specs.Stars.{out_of, into}
 use Rattle.wrp_graph.specs.Pieces.{Joined}
-use Rattle.wrp_graph.specs.Pieces.Joined.{here, along, against}
+use Rattle.wrp_graph.specs.Pieces.Joined.{here, along}
 use Rattle.wrp_euler.proofs.StarSums.{sum_by_plus, sum_by_same, sum_by_none, star_one}
 
 -- ---- one arc more
@@ -38,16 +39,23 @@ count_reverse (step ∷ steps) arc =
 
 -- ---- how often a walk leaves and enters a junction
 
-out_one : (town : Town) (b j : ℕ) → is_legal town b ≡ true → sum_by (λ arc. cond (b == arc) 1 0) (out_of town j) ≡ cond (tail_of town b == j) 1 0
+pub out_one : (town : Town) (b j : ℕ) → is_legal town b ≡ true → sum_by (λ arc. cond (b == arc) 1 0) (out_of town j) ≡ cond (tail_of town b == j) 1 0
 out_one town b j legal = star_one (is_legal town) (λ arc. tail_of town arc == j) (2 * length town.streets) b (legal_below town b legal) legal
 
-in_one : (town : Town) (b j : ℕ) → is_legal town b ≡ true → sum_by (λ arc. cond (b == arc) 1 0) (into town j) ≡ cond (head_of town b == j) 1 0
+pub in_one : (town : Town) (b j : ℕ) → is_legal town b ≡ true → sum_by (λ arc. cond (b == arc) 1 0) (into town j) ≡ cond (head_of town b == j) 1 0
 in_one town b j legal = star_one (is_legal town) (λ arc. head_of town arc == j) (2 * length town.streets) b (legal_below town b legal) legal
 
 count_sum : (step : Step) (steps : List Step) (arcs : List ℕ) → sum_by (count_of (step ∷ steps)) arcs ≡ sum_by (λ arc. cond (arc_of step == arc) 1 0) arcs + sum_by (count_of steps) arcs
 count_sum step steps arcs =
     sum_by_same (count_of (step ∷ steps)) (λ arc. cond (arc_of step == arc) 1 0 + count_of steps arc) arcs (count_of-cons step steps)
     ∙ sum_by_plus (λ arc. cond (arc_of step == arc) 1 0) (count_of steps) arcs
+
+-- over any arcs, what is left behind a walk and what it takes are what there was
+pub walked_sum : (rest left : List ℕ) (steps : List Step) (arcs : List ℕ) → ((arc : ℕ) → slice_index rest arc + count_of steps arc ≡ slice_index left arc)
+    → sum_by (slice_index rest) arcs + sum_by (count_of steps) arcs ≡ sum_by (slice_index left) arcs
+walked_sum rest left steps arcs counted =
+    sym (sum_by_plus (slice_index rest) (count_of steps) arcs)
+    ∙ sum_by_same (λ a. slice_index rest a + count_of steps a) (slice_index left) arcs counted
 
 -- a walk leaves each junction as often as it enters it, but for its ends
 pub walk_balance : (town : Town) (i : ℕ) (steps : List Step) (j k : ℕ) → leads town i steps j ≡ true

@@ -1,11 +1,10 @@
 -- Counts of the traversals of arcs, and the closed walks with these counts.
 use Rattle.std.specs.Prelude.{◌≡◌, ℕ, ◌*◌, ◌<◌, Bool, true, false, nat_lt, List, length, slice_index}
-use Rattle.std.specs.List.{sum_by}
 use Rattle.wrp_town.specs.declared.street.Step.{Step}
 use Rattle.wrp_town.specs.declared.town.Town.{Town}
 use Rattle.wrp_town.specs.Arcs.{tail_of, is_legal}
 use Rattle.wrp_town.specs.Walks.{is_closed_walk, count_of}
-use Rattle.wrp_graph.specs.Stars.{out_of, into}
+use Rattle.wrp_graph.specs.Balances.{leaving, entering, AreBalanced}
 use Rattle.wrp_graph.specs.Pieces.{Joined}
 
 -- a count for each arc, none on an illegal one
@@ -13,33 +12,29 @@ pub record AreCounts (town : Town) (counts : List ℕ) : Type 0 where
   pub each : length counts ≡ 2 * length town.streets
   pub legal : (arc : ℕ) → is_legal town arc ≡ false → slice_index counts arc ≡ 0
 
--- how many traversals leave a junction, and how many enter it
-abbrev pub leaving : Town → List ℕ → ℕ → ℕ
-leaving town counts j = sum_by (slice_index counts) (out_of town j)
-
-abbrev pub entering : Town → List ℕ → ℕ → ℕ
-entering town counts j = sum_by (slice_index counts) (into town j)
-
 -- the arc is traversed
 abbrev pub is_used : List ℕ → ℕ → Bool
 is_used counts arc = nat_lt 0 (slice_index counts arc)
 
 -- two arcs are in one piece where arcs that are traversed join their tails
 abbrev pub AreInOnePiece : Town → List ℕ → ℕ → ℕ → Type 0
-AreInOnePiece town counts first second = Joined town (is_used counts) (tail_of town first) (tail_of town second)
+AreInOnePiece town counts first second =
+    Joined town (is_used counts) (tail_of town first) (tail_of town second)
 
 -- a closed walk that uses each arc exactly its count of times
 pub record IsCircuit (town : Town) (counts : List ℕ) (steps : List Step) : Type 0 where
   pub closed : is_closed_walk town steps ≡ true
   pub counted : (arc : ℕ) → count_of steps arc ≡ slice_index counts arc
 
--- every junction is left as often as it is entered
-abbrev pub AreBalanced : Town → List ℕ → Type 0
-AreBalanced town counts = (j : ℕ) → j < length town.junctions → leaving town counts j ≡ entering town counts j
+-- some closed walk does
+abbrev pub HasCircuit : Town → List ℕ → Type 0
+HasCircuit town counts = (steps : List Step) × IsCircuit town counts steps
 
 -- the arcs that are traversed are one piece
 abbrev pub AreOnePiece : Town → List ℕ → Type 0
-AreOnePiece town counts = (first second : ℕ) → is_used counts first ≡ true → is_used counts second ≡ true → AreInOnePiece town counts first second
+AreOnePiece town counts =
+    (first second : ℕ) → is_used counts first ≡ true → is_used counts second ≡ true
+    → AreInOnePiece town counts first second
 
 -- the least arc that is traversed
 pub record IsLeastUsed (counts : List ℕ) (arc : ℕ) : Type 0 where
@@ -57,12 +52,13 @@ pub record IsUnbalanced (town : Town) (counts : List ℕ) (junction : ℕ) : Typ
   pub differs : (leaving town counts junction ≡ entering town counts junction) → ⊥
   pub least : (j : ℕ) → j < junction → leaving town counts j ≡ entering town counts j
 
--- every junction is balanced, and the second arc is the least one outside the piece of the first, which is the
--- least of all that are traversed
+-- every junction is balanced, and the second arc is the least one outside the piece of the first, which
+-- is the least of all that are traversed
 pub record AreApart (town : Town) (counts : List ℕ) (first other : ℕ) : Type 0 where
   pub balanced : AreBalanced town counts
   pub first_used : is_used counts first ≡ true
   pub first_least : (arc : ℕ) → arc < first → is_used counts arc ≡ false
   pub other_used : is_used counts other ≡ true
   pub other_apart : AreInOnePiece town counts first other → ⊥
-  pub other_least : (arc : ℕ) → arc < other → is_used counts arc ≡ true → AreInOnePiece town counts first arc
+  pub other_least : (arc : ℕ) → arc < other → is_used counts arc ≡ true
+      → AreInOnePiece town counts first arc

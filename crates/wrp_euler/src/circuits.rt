@@ -1,23 +1,28 @@
 //! A closed walk that traverses each arc a given number of times.
 ghost use Rattle.std.specs.Prelude.{◌≡◌, ℕ, ◌+◌, ◌*◌, ◌^◌, ◌<◌, ◌≤◌, length, sum, IfOk, IfErr, MatchOption, slice_index};
 ghost use Rattle.std.specs.List.{sum_by};
-ghost use Rattle.wrp_euler.specs.Circuits.{AreCounts, AreBalanced, AreOnePiece, AreNone, IsCircuit, IsLeastUsed, IsUnbalanced};
+ghost use Rattle.wrp_graph.specs.Balances.{AreBalanced};
+ghost use Rattle.wrp_euler.specs.Circuits.{AreCounts, AreOnePiece, AreNone, IsCircuit, IsLeastUsed, IsUnbalanced};
 ghost use Rattle.wrp_euler.specs.Faults.{IsFaultOf};
 
 use crate::trail::Trail;
 use std::alloc::{AllocError, Global};
+use thiserror::Error;
 use wrp_graph::Graph;
 use wrp_town::{List, Step};
 
 /// Why counts have no circuit.
-#[derive(Clone, Copy, Debug, PartialEq, Eq)]
+#[derive(Clone, Copy, Debug, PartialEq, Eq, Error)]
 pub enum CircuitFault {
     /// The least junction that as many traversals do not leave as enter.
+    #[error("junction {junction} is not balanced")]
     Unbalanced { junction: u32 },
-    /// All junctions are balanced, and the arcs that are traversed are not one piece: the least of them,
-    /// and the least outside its piece.
+    /// All junctions are balanced, and the arcs that are traversed are not one piece: the least of
+    /// them, and the least outside its piece.
+    #[error("arcs {first} and {other} are in two pieces")]
     Apart { first: u32, other: u32 },
     /// Want of memory.
+    #[error("no memory")]
     Memory,
 }
 
@@ -36,8 +41,8 @@ impl From<AllocError> for CircuitFault {
 ///
 /// # Errors
 ///
-/// `Unbalanced` where traversals do not leave a junction as often as they enter it, `Apart` where they
-/// do and the arcs that are traversed are not one piece. Either comes exactly there.
+/// `Unbalanced` where traversals do not leave a junction as often as they enter it, `Apart` where
+/// they do and the arcs that are traversed are not one piece. There is no circuit then (`circuit_laws`).
 pub fn circuit(alloc: Global, graph: &Graph, counts: &[u32]) -> Result<List<Step>, CircuitFault>
     requires counts { AreCounts graph.now counts.now }
     requires sum { sum counts.now ≤ 2 ^ 25 }
@@ -98,7 +103,8 @@ fn first_used(counts: &[u32]) -> Option<u32>
 fn first_unbalanced(graph: &Graph, counts: &[u32]) -> Option<u32>
     requires counts { AreCounts graph.now counts.now }
     requires sum { sum counts.now ≤ 2 ^ 25 }
-    ensures { MatchOption result (AreBalanced graph.now counts.now) (λ junction. IsUnbalanced graph.now counts.now junction) }
+    ensures { MatchOption result (AreBalanced graph.now counts.now)
+        (λ junction. IsUnbalanced graph.now counts.now junction) }
 {
     for junction in 0..graph.town().junctions.len() as u32 {
         if traversals(counts, graph.out_of(junction)) != traversals(counts, graph.into(junction)) {

@@ -2,6 +2,8 @@
 #![tactic(auto)]
 
 mod circuits;
+mod laws;
 mod trail;
 
 pub use circuits::{CircuitFault, circuit};
+pub use laws::circuit_laws;

@@ -2,8 +2,9 @@
 ghost use Rattle.std.specs.Prelude.{◌≡◌, ℕ, ◌+◌, ◌-◌, ◌*◌, ◌<◌, ◌≤◌, List, [], ◌∷◌, ◌++◌, length, IfOk, OnOk, MatchOption, slice_index, slice_set};
 ghost use Rattle.wrp_town.specs.Arcs.{arc_of, is_legal, tail_of, head_of};
 ghost use Rattle.wrp_graph.specs.Stars.{out_of};
-ghost use Rattle.wrp_euler.specs.Circuits.{AreCounts, AreBalanced, leaving};
-ghost use Rattle.wrp_euler.specs.Trails.{IsOpen, ArePlaces, IsTrail, GoesOn, GoesBack, Turns, IsPiece};
+ghost use Rattle.wrp_graph.specs.Balances.{AreBalanced, leaving};
+ghost use Rattle.wrp_euler.specs.Circuits.{AreCounts};
+ghost use Rattle.wrp_euler.specs.Trails.{IsOpen, ArePlaces, IsTrail, IsStart, GoesOn, GoesBack, Turns, IsPiece};
 
 use std::alloc::{AllocError, Global};
 use wrp_graph::Graph;
@@ -29,12 +30,7 @@ impl Trail {
     fn new(alloc: Global, graph: &Graph, counts: &[u32], base: u32) -> Result<Trail, AllocError>
         requires there { base < length graph.now.junctions }
         requires counts { length counts.now ≡ 2 * length graph.now.streets }
-        ensures trail { IfOk result (λ trail. IsTrail graph.now trail) }
-        ensures left { IfOk result (λ trail. trail.left.items ≡ counts.now) }
-        ensures path { IfOk result (λ trail. trail.path.items ≡ []) }
-        ensures done { IfOk result (λ trail. trail.done.items ≡ []) }
-        ensures base { IfOk result (λ trail. trail.base ≡ base) }
-        ensures at { IfOk result (λ trail. trail.at ≡ base) }
+        ensures { IfOk result (λ trail. IsStart graph.now counts.now base trail) }
     {
         Ok(Trail {
             left: counts.to_vec(alloc)?,
@@ -116,7 +112,8 @@ impl Trail {
         requires there { base < length graph.now.junctions }
         requires counts { AreCounts graph.now counts.now }
         requires balanced { AreBalanced graph.now counts.now }
-        ensures { IfOk result (λ trail. IsPiece graph.now counts.now base trail.left.items trail.done.items) }
+        ensures { IfOk result (λ trail. IsPiece graph.now counts.now base
+            trail.left.items trail.done.items) }
     {
         let mut trail = Trail::new(alloc, graph, counts, base)?;
         while trail.turn(graph)? {}
@@ -124,14 +121,17 @@ impl Trail {
     }
 }
 
-/// The first place from one on at which an arc is left, and the number of the arcs where there is none.
+/// The first place from one on at which an arc is left, and the number of the arcs where there is
+/// none.
 fn first_left(arcs: &[u32], left: &[u32], from: usize) -> usize
     requires inside { (k : ℕ) → k < length arcs.now → slice_index arcs.now k < length left.now }
     requires from { from ≤ length arcs.now }
     ensures from { from ≤ result }
     ensures within { result ≤ length arcs.now }
-    ensures passed { (k : ℕ) → from ≤ k → k < result → slice_index left.now (slice_index arcs.now k) ≡ 0 }
-    ensures found { result < length arcs.now → 0 < slice_index left.now (slice_index arcs.now result) }
+    ensures passed { (k : ℕ) → from ≤ k → k < result
+        → slice_index left.now (slice_index arcs.now k) ≡ 0 }
+    ensures found { result < length arcs.now
+        → 0 < slice_index left.now (slice_index arcs.now result) }
 {
     for place in from..arcs.len() {
         if left[arcs[place] as usize] > 0 {

@@ -1,3 +1,4 @@
 pub mod Stars
+pub mod Balances
 pub mod Pieces
 pub mod Sorted

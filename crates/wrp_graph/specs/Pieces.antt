@@ -8,6 +8,8 @@ pub data Joined (town : Town) (taken : ℕ → Bool) : ℕ → ℕ → Type 0 wh
   -- a junction is joined with itself
   here : (j : ℕ) → Joined town taken j j
   -- from the tail of an arc to its head, and on
-  along : (arc k : ℕ) → arc < 2 * length town.streets → taken arc ≡ true → Joined town taken (head_of town arc) k → Joined town taken (tail_of town arc) k
+  along : (arc k : ℕ) → arc < 2 * length town.streets → taken arc ≡ true
+      → Joined town taken (head_of town arc) k → Joined town taken (tail_of town arc) k
   -- from the head of an arc to its tail, and on
-  against : (arc k : ℕ) → arc < 2 * length town.streets → taken arc ≡ true → Joined town taken (tail_of town arc) k → Joined town taken (head_of town arc) k
+  against : (arc k : ℕ) → arc < 2 * length town.streets → taken arc ≡ true
+      → Joined town taken (tail_of town arc) k → Joined town taken (head_of town arc) k

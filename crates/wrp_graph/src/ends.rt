@@ -1,13 +1,13 @@
 //! The legal arcs of a town, each with the junctions at its ends.
 ghost use Rattle.std.specs.Prelude.{◌≡◌, ◌*◌, ◌<◌, [], ◌∷◌, ◌++◌, length, IfOk, OnOk};
-ghost use Rattle.std.specs.List.{filter};
-ghost use Rattle.wrp_town.specs.Arcs.{tail_of, head_of, is_legal, legal_arcs};
-ghost use Rattle.wrp_graph.specs.Stars.{keyed_by};
+ghost use Rattle.wrp_town.specs.Arcs.{arcs};
+ghost use Rattle.wrp_graph.specs.Stars.{tails_of, heads_of};
 
 use std::alloc::{AllocError, Global};
 use wrp_town::Town;
 
-/// Legal arcs, ascending: each with the junction that it leaves, and each with the one that it enters.
+/// Legal arcs, ascending: each with the junction that it leaves, and each with the one that it
+/// enters.
 #[derive(Drop)]
 pub struct Ends {
     pub tails: Vec<(u32, u32)>,
@@ -17,8 +17,8 @@ pub struct Ends {
 impl Ends {
     /// The ends of all legal arcs of a town.
     pub fn of_town(alloc: Global, town: &Town) -> Result<Ends, AllocError>
-        ensures tails { IfOk result (λ ends. ends.tails.items ≡ keyed_by (tail_of town.now) (legal_arcs town.now)) }
-        ensures heads { IfOk result (λ ends. ends.heads.items ≡ keyed_by (head_of town.now) (legal_arcs town.now)) }
+        ensures tails { IfOk result (λ ends. ends.tails.items ≡ tails_of town.now (arcs town.now)) }
+        ensures heads { IfOk result (λ ends. ends.heads.items ≡ heads_of town.now (arcs town.now)) }
     {
         let mut ends = Ends {
             tails: Vec::new(alloc),
@@ -33,8 +33,10 @@ impl Ends {
     /// Adds an arc, where it is legal.
     fn add(&mut self, town: &Town, arc: u32) -> Result<(), AllocError>
         requires { arc < 2 * length town.now.streets }
-        ensures tails { OnOk result (self.new.tails.items ≡ self.old.tails.items ++ keyed_by (tail_of town.now) (filter (is_legal town.now) (arc ∷ []))) }
-        ensures heads { OnOk result (self.new.heads.items ≡ self.old.heads.items ++ keyed_by (head_of town.now) (filter (is_legal town.now) (arc ∷ []))) }
+        ensures tails { OnOk result
+            (self.new.tails.items ≡ self.old.tails.items ++ tails_of town.now (arc ∷ [])) }
+        ensures heads { OnOk result
+            (self.new.heads.items ≡ self.old.heads.items ++ heads_of town.now (arc ∷ [])) }
     {
         if town.cost(arc).is_some() {
             self.tails.push((town.tail(arc), arc))?;

@@ -50,14 +50,14 @@ impl<'a> Graph<'a> {
         })
     }
 
-    /// The town of which the graph was made. It takes no memory.
+    /// The town of which the graph was made.
     pub fn town(&self) -> &Town
         ensures { result.now ≡ self.now }
     {
         self.town
     }
 
-    /// The legal arcs that leave a junction, ascending. It takes no memory.
+    /// The legal arcs that leave a junction, ascending.
     #[tactic(auto, using(crate::proofs::Rows::row_there, crate::proofs::Rows::row_at))]
     pub fn out_of(&self, j: u32) -> &[u32]
         requires { j < length self.now.junctions }
@@ -66,7 +66,7 @@ impl<'a> Graph<'a> {
         self.leaving.bucket(j as usize)
     }
 
-    /// The legal arcs that enter a junction, ascending. It takes no memory.
+    /// The legal arcs that enter a junction, ascending.
     #[tactic(auto, using(crate::proofs::Rows::row_there, crate::proofs::Rows::row_at))]
     pub fn into(&self, j: u32) -> &[u32]
         requires { j < length self.now.junctions }

@@ -1,4 +1,5 @@
-//! The street network as a graph: the legal arcs at each junction.
+//! The street network as a graph: the legal arcs at each junction. Making it takes memory, and what
+//! it lends takes none.
 #![tactic(auto)]
 
 mod buckets;

@@ -1,7 +1,7 @@
 -- The counts of a tour meet each balance row, with equality, and each service row.
-use Rattle.std.proofs.Common.{◌≡◌, ℕ, ◌<◌, ◌≤◌, Bool, true, false, ◌==◌, ◌&&◌, ◌||◌, ℤ, pos, ◌+ℤ◌, ◌-ℤ◌, ◌*ℤ◌, ◌≤ℤ◌, List, [], ◌∷◌, map, length, get_or, ap, refl, sym, ◌∙◌, subst, arith, ⊎_elim}
-use Rattle.std.specs.List.{list_all, All}
-use Rattle.std.proofs.lemmas.Bool.{eqb-true, and_parts, and_from, false≢true, cases_lt}
+use Rattle.std.proofs.Common.{◌≡◌, ℕ, ◌<◌, ◌≤◌, Bool, true, false, ◌==◌, ◌||◌, ℤ, pos, ◌+ℤ◌, ◌-ℤ◌, ◌*ℤ◌, ◌≤ℤ◌, List, [], ◌∷◌, map, length, get_or, ap, refl, sym, ◌∙◌, subst, arith, ⊎_elim}
+use Rattle.std.specs.List.{All}
+use Rattle.std.proofs.lemmas.Bool.{eqb-true, false≢true, cases_lt}
 use Rattle.std.proofs.lemmas.List.{get_or_past}
 use Rattle.std.proofs.lemmas.List.Elements.{All-append, All-map}
 use Rattle.std.proofs.lemmas.List.Sums.{AllPass-from_list_all}
@@ -11,31 +11,12 @@ use Rattle.wrp_sums.proofs.Integers.{linear, at_most_refl}
 use Rattle.wrp_sums.proofs.SumsOver.{sum_over-all_zero, sum_over-pos, sum_over-at_least_zero}
 use Rattle.wrp_town.specs.declared.street.Step.{Step}
 use Rattle.wrp_town.specs.declared.town.Town.{Town}
-use Rattle.wrp_town.specs.Arcs.{is_legal, tail_of, head_of, cost_or_zero, legal_arcs, junctions, demands, has_arc, arc_of}
-use Rattle.wrp_town.specs.Walks.{leads, is_closed_walk, serves, serves_all, is_tour, walk_cost, count_of}
+use Rattle.wrp_town.specs.Arcs.{tail_of, head_of, cost_or_zero, legal_arcs, junctions, demands, has_arc, arc_of}
+use Rattle.wrp_town.specs.Walks.{leads, is_closed_walk, serves, is_tour, walk_cost, count_of}
+use Rattle.wrp_town.proofs.WalkLaws.{LeadsBy-from_leads, are_legal-from_closed, tour_closed, tour_serves}
 use Rattle.wrp_rules.specs.Rows.{Row, one_if, balance_row, service_row, base_rows, row_at}
 use Rattle.wrp_laws.specs.Meets.{sum_of_uses, MeetsRow}
 use Rattle.wrp_laws.proofs.Counts.{sum_by_counts}
-
--- ---- walks
-
--- the first step is legal and begins where the walk does, and the others lead on from its end
-pub step_parts : (town : Town) (i : ℕ) (step : Step) (steps : List Step) (j : ℕ) → leads town i (step ∷ steps) j ≡ true → (is_legal town (arc_of step) ≡ true) × (tail_of town (arc_of step) ≡ i) × (leads town (head_of town (arc_of step)) steps j ≡ true)
-step_parts town i step steps j walk =
-    let parts = and_parts (is_legal town (arc_of step) && (tail_of town (arc_of step) == i)) (leads town (head_of town (arc_of step)) steps j) walk in
-    let first = and_parts (is_legal town (arc_of step)) (tail_of town (arc_of step) == i) parts.0 in
-    (first.0, eqb-true (tail_of town (arc_of step)) i first.1, parts.1)
-
--- the steps of a walk are legal
-pub legal_along : (town : Town) (i : ℕ) (steps : List Step) (j : ℕ) → leads town i steps j ≡ true → list_all (λ step. is_legal town (arc_of step)) steps ≡ true
-legal_along town i [] j walk = refl
-legal_along town i (step ∷ steps) j walk =
-    let parts = step_parts town i step steps j walk in
-    and_from (is_legal town (arc_of step)) _ parts.0 (legal_along town (head_of town (arc_of step)) steps j parts.2)
-
-pub legal_steps : (town : Town) (steps : List Step) → is_closed_walk town steps ≡ true → list_all (λ step. is_legal town (arc_of step)) steps ≡ true
-legal_steps town [] walk = refl
-legal_steps town (step ∷ steps) walk = legal_along town (tail_of town (arc_of step)) (step ∷ steps) (tail_of town (arc_of step)) walk
 
 -- ---- balance
 
@@ -45,9 +26,9 @@ balance_along town v i [] j walk =
     let same : i ≡ j = eqb-true i j walk in
     rw same (omega (arith, linear))
 balance_along town v i (step ∷ steps) j walk =
-    let parts = step_parts town i step steps j walk in
-    let rest = balance_along town v (head_of town (arc_of step)) steps j parts.2 in
-    omega (arith, linear, rest, ap (λ (k : ℕ). one_if (k == v)) parts.1)
+    let by = LeadsBy-from_leads town i step steps j walk in
+    let rest = balance_along town v (head_of town (arc_of step)) steps j by.goes_on in
+    omega (arith, linear, rest, ap (λ (k : ℕ). one_if (k == v)) by.begins)
 
 pub balance_closed : (town : Town) (v : ℕ) (steps : List Step) → is_closed_walk town steps ≡ true → sum_over (λ step. one_if (tail_of town (arc_of step) == v) -ℤ one_if (head_of town (arc_of step) == v)) steps ≡ pos 0
 balance_closed town v [] walk = refl
@@ -57,7 +38,7 @@ balance_closed town v (step ∷ steps) walk =
 -- a closed walk leaves each junction as often as it enters it
 pub balanced : (town : Town) (v : ℕ) (steps : List Step) → is_closed_walk town steps ≡ true → sum_of_uses town steps (balance_row town v).coef ≡ pos 0
 balanced town v steps walk =
-    sum_by_counts town (balance_row town v).coef steps (legal_steps town steps walk) ∙ balance_closed town v steps walk
+    sum_by_counts town (balance_row town v).coef steps (are_legal-from_closed town steps walk) ∙ balance_closed town v steps walk
 
 -- ---- service
 
@@ -79,7 +60,7 @@ served_once demand (step ∷ steps) served = by (has_arc demand (arc_of step)) s
 
 pub meets_service : (town : Town) (demand : List ℕ) (steps : List Step) → is_closed_walk town steps ≡ true → serves steps demand ≡ true → MeetsRow town steps (service_row demand)
 meets_service town demand steps walk served =
-    subst (λ (z : ℤ). pos 1 ≤ℤ z) (sym (sum_by_counts town (service_row demand).coef steps (legal_steps town steps walk))) (served_once demand steps served)
+    subst (λ (z : ℤ). pos 1 ≤ℤ z) (sym (sum_by_counts town (service_row demand).coef steps (are_legal-from_closed town steps walk))) (served_once demand steps served)
 
 -- ---- all rows
 
@@ -88,11 +69,11 @@ meets_balance town v steps walk = subst (λ (z : ℤ). pos 0 ≤ℤ z) (sym (bal
 
 pub meets_all : (town : Town) (steps : List Step) → is_tour town steps ≡ true → All (MeetsRow town steps) (base_rows town)
 meets_all town steps tour =
-    let parts = and_parts (is_closed_walk town steps) (serves_all town steps) tour in
-    let services = AllPass-from_list_all (serves steps) (demands town) parts.1 in
+    let closed = tour_closed town steps tour in
+    let services = AllPass-from_list_all (serves steps) (demands town) (tour_serves town steps tour) in
     All-append (MeetsRow town steps) (map (balance_row town) (junctions town)) (map service_row (demands town))
-    (All-map (MeetsRow town steps) (balance_row town) (junctions town) (λ k d inside. meets_balance town (get_or (junctions town) k d) steps parts.0))
-    (All-map (MeetsRow town steps) service_row (demands town) (λ k d inside. meets_service town (get_or (demands town) k d) steps parts.0 (services k d inside)))
+    (All-map (MeetsRow town steps) (balance_row town) (junctions town) (λ k d inside. meets_balance town (get_or (junctions town) k d) steps closed))
+    (All-map (MeetsRow town steps) service_row (demands town) (λ k d inside. meets_service town (get_or (demands town) k d) steps closed (services k d inside)))
 
 -- rows that the steps meet, by number: past the last stands a row that asks for nothing
 pub meets_at : (town : Town) (steps : List Step) (rows : List Row) (i : ℕ) → All (MeetsRow town steps) rows → MeetsRow town steps (row_at rows i)
@@ -113,5 +94,5 @@ meets_base_row town steps i tour = meets_at town steps (base_rows town) i (meets
 -- a walk costs what its arcs cost, each as often as it is used
 pub cost_of_uses : (town : Town) (steps : List Step) → is_closed_walk town steps ≡ true → sum_of_uses town steps (λ arc. pos (cost_or_zero town arc)) ≡ pos (walk_cost town steps)
 cost_of_uses town steps walk =
-    sum_by_counts town (λ arc. pos (cost_or_zero town arc)) steps (legal_steps town steps walk)
+    sum_by_counts town (λ arc. pos (cost_or_zero town arc)) steps (are_legal-from_closed town steps walk)
     ∙ sum_over-pos (λ step. cost_or_zero town (arc_of step)) steps

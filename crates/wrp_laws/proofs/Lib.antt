@@ -1,14 +1,7 @@
 -- Laws of tours and of the records of a proof, for the crates above.
 pub mod Counts
+pub mod Balances
 pub mod BaseRows
-pub mod PlainBounds
-pub mod PlainLists
-pub mod PlainEnds
-pub mod Example
-pub mod WorkedTowns
-pub mod WorkedLists
-pub mod WorkedRefusals
-pub mod WorkedLines
-pub mod WorkedLimits
-pub mod WorkedClasses
-pub mod WorkedOrder
+pub mod DualBounds
+pub mod JudgedLists
+pub mod JudgedEnds

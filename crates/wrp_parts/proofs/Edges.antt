@@ -10,7 +10,7 @@ use Rattle.std.proofs.lemmas.List.FromFn.{get_or-map-range_with_len, length-map-
 use Rattle.wrp_town.specs.declared.street.Street.{Street}
 use Rattle.wrp_town.specs.declared.town.Town.{Town}
 use Rattle.wrp_town.specs.Arcs.{arcs, is_required, tail_of, head_of, street_of}
-use Rattle.wrp_town.proofs.TownLaws.{street_of_below, tail_of-at, head_of-at, tail_of-below, head_of-below}
+use Rattle.wrp_town.proofs.TownLaws.{street_of_below, tail_of-at, head_of-at, tail_of-below, head_of-below, few_junctions}
 use Rattle.wrp_graph.specs.Pieces.{Joined, here, along}
 use Rattle.wrp_graph.proofs.Joins.{joined_keeps}
 use Rattle.wrp_parts.specs.RequiredParts.{is_of_required, ends_required, part_at}
@@ -138,6 +138,7 @@ edge_back town j k e =
 
 pub town_network : (town : Town) → IsNetwork (neighbours_of town)
 town_network town = record {
+  few = omega (arith, length-rows town, few_junctions town);
   below = λ j k near. let e = edge_from town j k near in omega (arith, head_of-below town e.arc e.below, e.head, length-rows town);
   back = λ j k near. edge_into town k j (edge_back town j k (edge_from town j k near));
 }

@@ -10,7 +10,7 @@ use Rattle.std.proofs.lemmas.List.{take_more, ext_get_or, length-take-le, get_or
 use Rattle.std.proofs.lemmas.Grind.{flat_map-append}
 use Rattle.wrp_town.specs.Streets.{come_in_order}
 use Rattle.wrp_parts.specs.RequiredParts.{part_at}
-use Rattle.wrp_parts.specs.Traversal.{next_to, Kept, HaveParts, AreNumbered}
+use Rattle.wrp_parts.specs.Traversal.{next_to, Kept, HaveParts, AreNumbered, IsSpread}
 use Rattle.wrp_parts.proofs.Visits.{some_kept}
 
 -- ---- numbers in order
@@ -81,16 +81,16 @@ first_same rows count r before of a inside parts kept =
     ∙ sym (get_or-take r before j None below))
 
 -- where it is the root of a new part
-pub numbered_new : (rows : List (List ℕ)) (count r : ℕ) (before of : List (Option ℕ)) → AreNumbered rows count r before → r < length rows → HaveParts rows (count + 1) of → Kept before of → part_at of r ≡ Some count → AreNumbered rows (count + 1) (r + 1) of
-numbered_new rows count r before of a inside parts kept root = record {
-  parts = parts;
+pub numbered_new : (rows : List (List ℕ)) (count r : ℕ) (before of : List (Option ℕ)) → AreNumbered rows count r before → r < length rows → IsSpread rows r count before of → AreNumbered rows (count + 1) (r + 1) of
+numbered_new rows count r before of a inside new = record {
+  parts = new.parts;
   done = λ j small some. elim (cases_eq j r) [
-    | inl same ↦ subst (λ z. is_some (part_at of z) ≡ true) (sym same) (ap is_some root)
-    | inr differs ↦ some_kept before of j kept (a.done j (omega arith) some)
+    | inl same ↦ subst (λ z. is_some (part_at of z) ≡ true) (sym same) (ap is_some new.begun)
+    | inr differs ↦ some_kept before of j new.kept (a.done j (omega arith) some)
   ];
   in_order = subst (λ (ys : List ℕ). come_in_order (count + 1) 0 ys ≡ true)
-      (sym (first_more of r (omega (arith, parts.long)) ∙ ap (λ (o : Option ℕ). flat_map option_to_list (take r of) ++ option_to_list o) root))
-      (subst (λ (os : List (Option ℕ)). come_in_order (count + 1) 0 (flat_map option_to_list os ++ count ∷ []) ≡ true) (sym (first_same rows count r before of a inside parts kept))
+      (sym (first_more of r (omega (arith, new.parts.long)) ∙ ap (λ (o : Option ℕ). flat_map option_to_list (take r of) ++ option_to_list o) new.begun))
+      (subst (λ (os : List (Option ℕ)). come_in_order (count + 1) 0 (flat_map option_to_list os ++ count ∷ []) ≡ true) (sym (first_same rows count r before of a inside new.parts new.kept))
       (order-new count 0 (flat_map option_to_list (take r before)) a.in_order));
   few = omega (arith, a.few);
 }

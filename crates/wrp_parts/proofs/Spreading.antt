@@ -6,7 +6,7 @@ use Rattle.std.proofs.lemmas.Option.{none-some, same_Some}
 use Rattle.std.proofs.lemmas.List.Elements.{Contains-append_left, Contains-push, Contains-push_cases}
 use Rattle.wrp_town.proofs.TownLaws.{some_value}
 use Rattle.wrp_parts.specs.RequiredParts.{part_at}
-use Rattle.wrp_parts.specs.Traversal.{next_to, IsNetwork, Reached, stay, go, Kept, HaveParts, IsVisit}
+use Rattle.wrp_parts.specs.Traversal.{next_to, IsNetwork, Reached, stay, go, Kept, HaveParts, IsVisit, IsFresh, IsSpread}
 use Rattle.wrp_parts.proofs.Visits.{in_single, no_item, part_inside}
 
 -- ---- ways
@@ -122,7 +122,7 @@ spread_reached rows root part i j q before of network parts s at_i at_j =
       ]
     ]
 
-pub spreading_last : (rows : List (List ℕ)) (root part : ℕ) (before of : List (Option ℕ)) → IsNetwork rows → 0 < length (next_to rows root) → HaveParts rows part before → IsSpreading rows root part before of [] → HaveParts rows (part + 1) of
+spreading_last : (rows : List (List ℕ)) (root part : ℕ) (before of : List (Option ℕ)) → IsNetwork rows → 0 < length (next_to rows root) → HaveParts rows part before → IsSpreading rows root part before of [] → HaveParts rows (part + 1) of
 spreading_last rows root part before of network ended parts s = record {
   long = s.long ∙ parts.long;
   fewer = λ j q is. elim (s.fresh j q is) [ inl was ↦ omega (arith, parts.fewer j q was) | inr here ↦ omega (arith, here.0) ];
@@ -130,3 +130,7 @@ spreading_last rows root part before of network ended parts s = record {
   reached = λ i j q at_i at_j. spread_reached rows root part i j q before of network parts s at_i at_j;
   ended = λ j q is. elim (s.fresh j q is) [ inl was ↦ parts.ended j q was | inr here ↦ reached_ended rows root j network ended here.1 ];
 }
+
+pub spread_at_end : (rows : List (List ℕ)) (root part : ℕ) (before of : List (Option ℕ)) → IsNetwork rows → IsFresh rows root before → HaveParts rows part before → IsSpreading rows root part before of [] → IsSpread rows root part before of
+spread_at_end rows root part before of network fresh parts s =
+    record { parts = spreading_last rows root part before of network fresh.ended parts s; kept = s.kept; begun = s.root_has }

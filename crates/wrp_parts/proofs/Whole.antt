@@ -7,22 +7,22 @@ use Rattle.std.proofs.lemmas.Bool.Decides.{nat_tests}
 use Rattle.std.proofs.lemmas.List.{take_all}
 use Rattle.wrp_town.specs.declared.town.Town.{Town}
 use Rattle.wrp_town.specs.Streets.{come_in_order}
-use Rattle.wrp_town.specs.Arcs.{tail_of, head_of}
+use Rattle.wrp_town.specs.Arcs.{arcs, tail_of, head_of}
 use Rattle.wrp_town.proofs.TownLaws.{some_value}
 use Rattle.wrp_graph.specs.Sorted.{items_of, buckets_of}
 use Rattle.wrp_graph.proofs.Sorting.{map_same}
 use Rattle.wrp_graph.proofs.Keyed.{items_of-map}
 use Rattle.wrp_parts.specs.RequiredParts.{ends_required, part_at, AreParts}
-use Rattle.wrp_parts.specs.Neighbours.{required_arcs, neighbours_at, neighbours_of, ends_of}
+use Rattle.wrp_parts.specs.Neighbours.{required_arcs, neighbours_at, neighbours_of, required_ends_of}
 use Rattle.wrp_parts.specs.Traversal.{AreNumbered}
 use Rattle.wrp_parts.proofs.Edges.{length-rows, joined_from_reached, part_of_joined, ended_test}
 
 -- the rows are the sorted ends
-pub sorted_rows : (town : Town) (n : ℕ) (entries : List (ℕ × ℕ)) → n ≡ length town.junctions → entries ≡ ends_of town (required_arcs town) → buckets_of n entries ≡ neighbours_of town
+pub sorted_rows : (town : Town) (n : ℕ) (entries : List (ℕ × ℕ)) → n ≡ length town.junctions → entries ≡ required_ends_of town (arcs town) → buckets_of n entries ≡ neighbours_of town
 sorted_rows town n entries count is =
     ap (λ (m : ℕ). buckets_of m entries) count
     ∙ ap (buckets_of (length town.junctions)) is
-    ∙ map_same (items_of (ends_of town (required_arcs town))) (neighbours_at town) (length town.junctions) (λ k small. items_of-map (λ a. (tail_of town a, head_of town a)) k (required_arcs town))
+    ∙ map_same (items_of (required_ends_of town (arcs town))) (neighbours_at town) (length town.junctions) (λ k small. items_of-map (λ a. (tail_of town a, head_of town a)) k (required_arcs town))
 
 same_test : (b c : Bool) → (b ≡ true → c ≡ true) → (c ≡ true → b ≡ true) → b ≡ c
 same_test true c there back = sym (there refl)

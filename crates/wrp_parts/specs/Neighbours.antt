@@ -11,11 +11,13 @@ required_arcs town = filter (is_of_required town) (arcs town)
 
 -- a neighbour for each arc of a required street that leaves the junction
 abbrev pub neighbours_at : Town → ℕ → List ℕ
-neighbours_at town j = map (head_of town) (filter (λ arc. tail_of town arc == j) (required_arcs town))
+neighbours_at town j =
+    map (head_of town) (filter (λ arc. tail_of town arc == j) (required_arcs town))
 
 abbrev pub neighbours_of : Town → List (List ℕ)
 neighbours_of town = map (neighbours_at town) (junctions town)
 
--- arcs, each as its two ends
-abbrev pub ends_of : Town → List ℕ → List (ℕ × ℕ)
-ends_of town arcs = map (λ arc. (tail_of town arc, head_of town arc)) arcs
+-- those of some arcs whose streets are required, each as its two ends
+abbrev pub required_ends_of : Town → List ℕ → List (ℕ × ℕ)
+required_ends_of town arcs =
+    map (λ arc. (tail_of town arc, head_of town arc)) (filter (is_of_required town) arcs)

@@ -13,17 +13,19 @@ is_of_required town arc = is_required town (arc / 2)
 
 -- a required street ends at the junction: each street has an arc from each of its ends
 abbrev pub ends_required : Town → ℕ → Bool
-ends_required town j = list_any (λ arc. is_of_required town arc && (tail_of town arc == j)) (arcs town)
+ends_required town j =
+    list_any (λ arc. is_of_required town arc && (tail_of town arc == j)) (arcs town)
 
 -- the part of a junction
 abbrev pub part_at : List (Option ℕ) → ℕ → Option ℕ
 part_at of j = slice_index_or of j None
 
--- a part for each junction where a required street ends, the same exactly where required streets join two junctions
+-- a part for each junction where a required street ends, the same exactly where required streets join
+-- two junctions
 pub record AreParts (town : Town) (count : ℕ) (of : List (Option ℕ)) : Type 0 where
   pub each : length of ≡ length town.junctions
   pub ended : (j : ℕ) → j < length town.junctions → is_some (part_at of j) ≡ ends_required town j
-  pub same : (i j part : ℕ) → i < length town.junctions → j < length town.junctions → part_at of i ≡ Some part
-      → (part_at of j ≡ Some part) ↔ Joined town (is_of_required town) i j
+  pub same : (i j part : ℕ) → i < length town.junctions → j < length town.junctions
+      → part_at of i ≡ Some part → (part_at of j ≡ Some part) ↔ Joined town (is_of_required town) i j
   -- as the junctions come, each part is one that was there before or the next, from 0 to the last
   pub in_order : come_in_order count 0 (flat_map option_to_list of) ≡ true

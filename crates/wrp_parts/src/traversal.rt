@@ -1,21 +1,19 @@
 //! Traversal of a network of neighbours, and the parts into which it falls.
-ghost use Rattle.std.specs.Prelude.{◌≡◌, ℕ, ◌+◌, ◌^◌, ◌<◌, [], ◌∷◌, None, Some, length, IfOk, OnOk};
+ghost use Rattle.std.specs.Prelude.{◌+◌, ◌<◌, [], ◌∷◌, length, IfOk, OnOk};
 ghost use Rattle.std.specs.List.{All};
-ghost use Rattle.wrp_parts.specs.RequiredParts.{part_at};
-ghost use Rattle.wrp_parts.specs.Traversal.{next_to, IsNetwork, Kept, HaveParts, AreNumbered, IsVisit};
+ghost use Rattle.wrp_parts.specs.Traversal.{IsNetwork, IsFresh, IsSpread, HaveParts, AreNumbered, IsVisit};
 
 use std::alloc::{AllocError, Global};
 use wrp_graph::Buckets;
 
 /// Numbers the parts of a network by their least junctions. Junctions without neighbours have none.
-/// It gives the number of parts.
+/// The answer is the number of parts.
 pub fn number_parts(
     alloc: Global,
     rows: &Buckets,
     of: &mut [Option<u32>],
 ) -> Result<u32, AllocError>
     requires network { IsNetwork rows.now }
-    requires few { length rows.now < 2 ^ 32 }
     requires none { AreNumbered rows.now 0 0 of.old }
     ensures { IfOk result (λ count. AreNumbered rows.now count (length rows.now) of.new) }
 {
@@ -26,7 +24,8 @@ pub fn number_parts(
     Ok(count)
 }
 
-/// Gives a junction its part, where it has neighbours and no part yet. It gives the number of parts.
+/// Gives a junction its part, where it has neighbours and no part yet. The answer is the number of
+/// parts.
 fn number_from(
     alloc: Global,
     rows: &Buckets,
@@ -35,7 +34,6 @@ fn number_from(
     of: &mut [Option<u32>],
 ) -> Result<u32, AllocError>
     requires network { IsNetwork rows.now }
-    requires few { length rows.now < 2 ^ 32 }
     requires root { root < length rows.now }
     requires before { AreNumbered rows.now count root of.old }
     ensures { IfOk result (λ number. AreNumbered rows.now number (root + 1) of.new) }
@@ -56,14 +54,9 @@ fn spread(
     of: &mut [Option<u32>],
 ) -> Result<(), AllocError>
     requires network { IsNetwork rows.now }
-    requires few { length rows.now < 2 ^ 32 }
-    requires root { root < length rows.now }
-    requires ended { 0 < length (next_to rows.now root) }
-    requires fresh { part_at of.old root ≡ None }
+    requires fresh { IsFresh rows.now root of.old }
     requires parts { HaveParts rows.now part of.old }
-    ensures parts { OnOk result (HaveParts rows.now (part + 1) of.new) }
-    ensures kept { OnOk result (Kept of.old of.new) }
-    ensures root { OnOk result (part_at of.new root ≡ Some part) }
+    ensures { OnOk result (IsSpread rows.now root part of.old of.new) }
 {
     let mut stack = Vec::new(alloc);
     meet(root, part, of, &mut stack)?;
@@ -81,7 +74,8 @@ fn visit(
     stack: &mut Vec<u32>,
 ) -> Result<(), AllocError>
     requires { All (λ j. j < length of.old) junctions.now }
-    ensures { OnOk result (IsVisit junctions.now part of.old stack.old.items of.new stack.new.items) }
+    ensures { OnOk result
+        (IsVisit junctions.now part of.old stack.old.items of.new stack.new.items) }
 {
     for j in junctions {
         meet(*j, part, of, stack)?;
@@ -92,7 +86,8 @@ fn visit(
 /// Gives a junction a part and puts it on the stack, where it has no part yet.
 fn meet(j: u32, part: u32, of: &mut [Option<u32>], stack: &mut Vec<u32>) -> Result<(), AllocError>
     requires { j < length of.old }
-    ensures { OnOk result (IsVisit (j ∷ []) part of.old stack.old.items of.new stack.new.items) }
+    ensures { OnOk result
+        (IsVisit (j ∷ []) part of.old stack.old.items of.new stack.new.items) }
 {
     if of[j as usize].is_none() {
         of[j as usize] = Some(part);

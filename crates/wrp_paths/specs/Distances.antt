@@ -7,7 +7,8 @@ use Rattle.wrp_town.specs.Walks.{leads, walk_cost}
 -- legal steps lead from one junction to another, and none that lead there cost less
 pub record IsShortest (town : Town) (from to : ℕ) (steps : List Step) : Type 0 where
   pub leads_there : leads town from steps to ≡ true
-  pub least : (others : List Step) → leads town from others to ≡ true → walk_cost town steps ≤ walk_cost town others
+  pub least : (others : List Step) → leads town from others to ≡ true
+      → walk_cost town steps ≤ walk_cost town others
 
 -- no legal steps lead from one junction to another
 abbrev pub HasNoWalk : Town → ℕ → ℕ → Type 0
@@ -18,11 +19,14 @@ abbrev pub IsDistance : Town → ℕ → ℕ → Option (ℕ × List Step) → T
 IsDistance town from to (Some way) = IsShortest town from to way.1 × (walk_cost town way.1 ≡ way.0)
 IsDistance town from to None = HasNoWalk town from to
 
--- the cost and the walk to a junction
-abbrev pub way_to : List (Option (ℕ × List Step)) → ℕ → Option (ℕ × List Step)
+-- for each junction a cost and a walk, where there is one
+abbrev pub Ways : Type 0
+Ways = List (Option (ℕ × List Step))
+
+abbrev pub way_to : Ways → ℕ → Option (ℕ × List Step)
 way_to ways j = slice_index_or ways j None
 
--- for each junction the cost of a shortest walk that leads there, with such a walk
-pub record AreShortest (town : Town) (from : ℕ) (ways : List (Option (ℕ × List Step))) : Type 0 where
+-- for each junction the cost of a shortest walk that leads there, and such a walk
+pub record AreShortest (town : Town) (from : ℕ) (ways : Ways) : Type 0 where
   pub each : length ways ≡ length town.junctions
   pub shortest : (j : ℕ) → j < length town.junctions → IsDistance town from j (way_to ways j)

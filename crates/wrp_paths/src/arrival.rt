@@ -5,8 +5,8 @@ ghost use Rattle.wrp_paths.specs.Arrivals.{start_at, along, entry_at};
 
 use wrp_town::{Step, Town};
 
-/// A walk to a junction, of which the last arc alone is kept. Of two walks the one of less cost is the
-/// lesser.
+/// A walk to a junction, of which the last arc alone is kept. Of two walks the one of less cost is
+/// the lesser.
 #[derive(Clone, Copy, Debug, PartialEq, Eq, PartialOrd, Ord)]
 pub struct Arrival {
     pub cost: u64,

@@ -9,8 +9,8 @@ use std::alloc::{AllocError, Global};
 use std::marker::Model;
 use wrp_town::{List, Step};
 
-/// Shortest walks from one junction. Contracts see, for each junction to which one leads, its cost and
-/// its steps.
+/// Shortest walks from one junction. Contracts see, for each junction to which one leads, its cost
+/// and its steps.
 #[derive(Debug, Drop)]
 pub struct Paths {
     alloc: Global,
@@ -18,11 +18,10 @@ pub struct Paths {
 }
 
 impl Model for Paths {
-    ghost use Rattle.std.specs.Prelude.{List, Option, ℕ};
-    ghost use Rattle.wrp_town.specs.declared.street.Step.{Step};
+    ghost use Rattle.wrp_paths.specs.Distances.{Ways};
     ghost use Rattle.wrp_paths.specs.Arrivals.{ways_of};
 
-    ghost Value = { List (Option (ℕ × List Step)) };
+    ghost Value = { Ways };
 
     ghost view = { λ paths. ways_of paths.table.items };
 }
@@ -37,7 +36,7 @@ impl Paths {
         Paths { alloc, table }
     }
 
-    /// The cost of a shortest walk to a junction, and `None` where none leads there. It takes no memory.
+    /// The cost of a shortest walk to a junction, and `None` where none leads there.
     pub fn dist(&self, j: u32) -> Option<u64>
         requires { j < length self.now }
         ensures { result ≡ option_map (λ way. way.0) (way_to self.now j) }
@@ -61,8 +60,8 @@ impl Paths {
     }
 }
 
-/// The last steps of the walk to a junction, as many as there are hops. Each entry names the junction
-/// before, so they are read from the last one back.
+/// The last steps of the walk to a junction, as many as there are hops. Each entry names the
+/// junction before, so they are read from the last one back.
 fn read_back(
     alloc: Global,
     table: &[Option<Arrival>],

@@ -68,11 +68,13 @@ fn settle(
     walk: Arrival,
 ) -> Result<(), AllocError>
     ghost from: { ℕ }
-    requires search { IsSearch graph.now from table.old (record { 0 = walk } ∷ heap_items queue.old) }
+    requires search { IsSearch graph.now from table.old
+        (record { 0 = walk } ∷ heap_items queue.old) }
     requires least { All (λ q. walk.cost ≤ q.0.cost) (heap_items queue.old) }
     requires fresh { entry_at table.old walk.junction ≡ None }
     ensures search { OnOk result (IsSearch graph.now from table.new (heap_items queue.new)) }
-    ensures order { OnOk result (KeepsHeap dearer_first (heap_items queue.old) (heap_items queue.new)) }
+    ensures order { OnOk result
+        (KeepsHeap dearer_first (heap_items queue.old) (heap_items queue.new)) }
     ensures work { OnOk result (work_left graph.now table.new (heap_items queue.new)
         < work_left graph.now table.old (record { 0 = walk } ∷ heap_items queue.old)) }
 {
@@ -86,8 +88,8 @@ fn settle(
     )
 }
 
-/// Puts the walks into the queue that go on from a walk, along one of the arcs, to a junction that isn't
-/// settled.
+/// Puts the walks into the queue that go on from a walk, along one of the arcs, to a junction that
+/// isn't settled.
 fn go_on(
     town: &Town,
     table: &[Option<Arrival>],
@@ -100,7 +102,8 @@ fn go_on(
     requires cheap { walk.cost ≤ 1000000000 * walk.hops }
     ensures queued { OnOk result (IsPermutation
         (heap_items queue.old ++ onward town.now table.now walk arcs.now) (heap_items queue.new)) }
-    ensures order { OnOk result (KeepsHeap dearer_first (heap_items queue.old) (heap_items queue.new)) }
+    ensures order { OnOk result
+        (KeepsHeap dearer_first (heap_items queue.old) (heap_items queue.new)) }
 {
     for arc in arcs {
         let next = walk.along(town, *arc);

@@ -1,5 +1,22 @@
-//! Worked towns: what the calls of the street network answer where a person knows the answer.
+//! Worked towns: what the definitions and the calls of the project answer where a person knows the
+//! answer. The files of `proofs/` work out lists of records by computation, and the tests call the
+//! street network.
 #![tactic(auto)]
+
+ghost use Rattle.std.specs.Prelude.{◌≡◌, true, List};
+ghost use Rattle.wrp_town.specs.declared.town.Town.{Town};
+ghost use Rattle.wrp_rules.specs.declared.record.Record.{Record};
+ghost use Rattle.wrp_rules.specs.declared.record.End.TheVariants.{Optimal};
+ghost use Rattle.wrp_rules.specs.Nodes.{standing};
+ghost use Rattle.wrp_rules.specs.Lists.{is_valid, agrees};
+ghost use Rattle.wrp_rules.specs.Judged.{are_judged};
 
 #[cfg(test)]
 mod tests;
+
+/// The laws of judged records speak of lists that there are: this function does nothing, and its
+/// clause is one.
+pub fn some_list_is_judged()
+    ensures { (town : Town) × (records : List Record) × (is_valid town records ≡ true)
+        × (are_judged town records ≡ true) × (agrees (standing town records) (Optimal 5) ≡ true) }
+{}

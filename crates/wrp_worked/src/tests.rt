@@ -1,4 +1,5 @@
-// What no clause says: that the definitions of the street network mean on worked towns what their author means.
+// What no clause says: that the definitions of the street network mean on worked towns what their
+// author means.
 ghost use Rattle.std.specs.Prelude.{◌≡◌, ℕ, ◌*◌, ◌≤◌, ◌^◌, false, IsTrue, length, sum, slice_index};
 ghost use Rattle.wrp_town.specs.Arcs.{is_legal};
 ghost use Rattle.wrp_euler.specs.Circuits.{AreCounts};
@@ -19,12 +20,12 @@ const CHAIN: &[u8] =
     b"street,from,to,forward,backward,need\ne,A,B,1,1,yes\nf,B,C,10,10,no\ng,C,D,1,1,yes\n";
 
 // A triangle that is driven one way round, and a street against it.
-const TRIANGLE: &[u8] =
-    b"street,from,to,forward,backward,need\na,A,B,1,-,no\nb,B,C,1,-,yes\nc,C,A,1,-,no\nd,B,A,5,-,yes\n";
+const TRIANGLE: &[u8] = b"street,from,to,forward,backward,need\na,A,B,1,-,no\nb,B,C,1,-,yes\n\
+c,C,A,1,-,no\nd,B,A,5,-,yes\n";
 
 // Required streets that nobody may drive, a loop, and junctions where none ends.
-const CLOSED: &[u8] =
-    b"street,from,to,forward,backward,need\na,A,B,1,1,no\nb,C,B,-,-,yes\nl,D,D,1,-,backward\nc,E,C,-,4,both\nd,E,D,1,1,no\n";
+const CLOSED: &[u8] = b"street,from,to,forward,backward,need\na,A,B,1,1,no\nb,C,B,-,-,yes\n\
+l,D,D,1,-,backward\nc,E,C,-,4,both\nd,E,D,1,1,no\n";
 
 // Two required streets, whose ends come in turn.
 const CROSSED: &[u8] =
@@ -78,7 +79,8 @@ fn are_few(counts: &[u32]) -> bool
 // Whether no illegal arc has a count.
 fn are_on_legal_arcs(town: &Town, counts: &[u32]) -> bool
     requires { length counts.now ≡ 2 * length town.now.streets }
-    ensures { IsTrue result → (arc : ℕ) → is_legal town.now arc ≡ false → slice_index counts.now arc ≡ 0 }
+    ensures { IsTrue result
+        → (arc : ℕ) → is_legal town.now arc ≡ false → slice_index counts.now arc ≡ 0 }
 {
     for (arc, count) in counts.iter().enumerate() {
         if *count > 0 && town.cost(arc as u32).is_none() {
@@ -96,7 +98,8 @@ fn are_counts(town: &Town, counts: &[u32]) -> bool
     counts.len() == 2 * town.streets.len() && are_on_legal_arcs(town, counts) && are_few(counts)
 }
 
-// What a circuit with these counts is, or why there is none; no steps where they are no counts of the town.
+// What a circuit with these counts is, or why there is none; no steps where they are no counts of
+// the town.
 fn circuit_of(alloc: Global, town: &Town, counts: &[u32]) -> Result<List<Step>, CircuitFault> {
     let graph = Graph::new(alloc, town)?;
     if are_counts(town, counts) {

@@ -1,4 +1,3 @@
--- The clause is a lemma of Counts.
 use Rattle.wrp_laws.proofs.Counts.{sum_by_counts}
 use Rattle.wrp_laws.proofs.arcs_sum_as_steps.Goals as goal
 

@@ -1,4 +1,3 @@
--- Each clause is a lemma of BaseRows.
 use Rattle.wrp_laws.proofs.BaseRows.{meets_base_row, balanced, cost_of_uses}
 use Rattle.wrp_laws.proofs.tours_meet_the_base_rows.Goals as goal
 

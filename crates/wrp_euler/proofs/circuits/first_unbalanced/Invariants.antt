@@ -1,5 +1,5 @@
 use Rattle.std.proofs.Common.{◌≡◌, ℕ, ◌<◌}
-use Rattle.wrp_euler.specs.Circuits.{leaving, entering}
+use Rattle.wrp_graph.specs.Balances.{leaving, entering}
 use Rattle.wrp_euler.proofs.circuits.first_unbalanced.Given as goal
 
 abbrev pub invariant-loop-junction : goal.invariant-loop-junction

@@ -1,9 +1,8 @@
 use Rattle.std.proofs.Common.{◌≡◌}
-use Rattle.std.specs.List.{filter, range_with_len}
-use Rattle.wrp_parts.specs.RequiredParts.{is_of_required}
-use Rattle.wrp_parts.specs.Neighbours.{ends_of}
+use Rattle.std.specs.List.{range_with_len}
+use Rattle.wrp_parts.specs.Neighbours.{required_ends_of}
 use Rattle.wrp_parts.proofs.neighbours.required_ends.Given as goal
 
 -- the ends of the arcs so far are there
 abbrev pub invariant-loop-arc : goal.invariant-loop-arc
-invariant-loop-arc l = l.ends.items ≡ ends_of l.town (filter (is_of_required l.town) (range_with_len 0 l.arc))
+invariant-loop-arc l = l.ends.items ≡ required_ends_of l.town (range_with_len 0 l.arc)

@@ -1,6 +1,5 @@
 use Rattle.std.proofs.Common.{◌≡◌, List, ℕ, Option, rules, length, sym, ap, ◌∙◌, subst, arith}
 use Rattle.std.proofs.lemmas.List.{with_items_is}
-use Rattle.wrp_town.proofs.TownLaws.{few_junctions}
 use Rattle.wrp_town.specs.declared.town.Town.{Town}
 use Rattle.wrp_parts.specs.RequiredParts.{AreParts}
 use Rattle.wrp_parts.specs.Traversal.{IsNetwork, AreNumbered}
@@ -11,9 +10,6 @@ use Rattle.wrp_parts.proofs.parts.required_parts.Goals as goal
 
 pub number_parts-requires-clause-network : goal.number_parts-requires-clause-network
 number_parts-requires-clause-network c = subst (λ (rows : List (List ℕ)). IsNetwork rows) (sym c.in_ok-rows.ensures) (town_network c.town-town.result.now)
-
-pub number_parts-requires-clause-few : goal.number_parts-requires-clause-few
-number_parts-requires-clause-few c = omega (arith, ap length c.in_ok-rows.ensures, length-rows c.town-town.result.now, few_junctions c.town-town.result.now)
 
 pub number_parts-requires-clause-none : goal.number_parts-requires-clause-none
 number_parts-requires-clause-none c =

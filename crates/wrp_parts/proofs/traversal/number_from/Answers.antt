@@ -14,4 +14,4 @@ returns-then-is_some c =
 
 pub returns : goal.returns
 returns c =
-    numbered_new c.args.rows.now c.args.count c.args.root c.args.of.now c.spread.new.of c.requires.before c.requires.root c.in_ok-spread.ensures.parts c.in_ok-spread.ensures.kept c.in_ok-spread.ensures.root
+    numbered_new c.args.rows.now c.args.count c.args.root c.args.of.now c.spread.new.of c.requires.before c.requires.root c.in_ok-spread.ensures

@@ -3,12 +3,12 @@ use Rattle.std.specs.List.{Contains}
 use Rattle.std.proofs.lemmas.List.{nil_from_length}
 use Rattle.std.proofs.lemmas.List.Elements.{Contains-get_or}
 use Rattle.wrp_parts.specs.Traversal.{IsVisit}
-use Rattle.wrp_parts.proofs.Spreading.{IsSpreading, spreading_first, spreading_more, spreading_last, next_inside}
+use Rattle.wrp_parts.proofs.Spreading.{IsSpreading, spreading_first, spreading_more, spread_at_end, next_inside}
 use Rattle.wrp_parts.proofs.traversal.spread.Goals as goal
 
 pub loop-j-init : goal.loop-j-init
 loop-j-init c =
-    spreading_first c.args.rows.now c.args.root c.args.part c.args.of.now c.meet.new.of c.meet.new.stack.items c.requires.parts c.requires.fresh
+    spreading_first c.args.rows.now c.args.root c.args.part c.args.of.now c.meet.new.of c.meet.new.stack.items c.requires.parts c.requires.fresh.fresh
     (subst (λ (s : List ℕ). IsVisit (c.args.root ∷ []) c.args.part c.args.of.now s c.meet.new.of c.meet.new.stack.items) c.new-stack.ensures.items c.in_ok-meet.ensures)
 
 pub bucket-requires : goal.bucket-requires
@@ -27,8 +27,8 @@ loop-j-preserved c =
     (subst (λ (s : List ℕ). IsSpreading c.args.rows.now c.args.root c.args.part c.args.of.now c.loop-j.of s) c.in-Some.ensures.items c.loop-j.invariant)
     (subst (λ (xs : List ℕ). IsVisit xs c.args.part c.loop-j.of c.pop.new.self.items c.visit.new.of c.visit.new.stack.items) c.bucket.ensures c.in_ok-visit.ensures)
 
-pub returns-clause-parts : goal.returns-clause-parts
-returns-clause-parts c =
+pub returns : goal.returns
+returns c =
     let empty = nil_from_length c.loop-j.stack.items (omega (arith, c.in_default.ensures.cases.0)) in
-    spreading_last c.args.rows.now c.args.root c.args.part c.args.of.now c.loop-j.of c.requires.network c.requires.ended c.requires.parts
+    spread_at_end c.args.rows.now c.args.root c.args.part c.args.of.now c.loop-j.of c.requires.network c.requires.fresh c.requires.parts
     (subst (λ (s : List ℕ). IsSpreading c.args.rows.now c.args.root c.args.part c.args.of.now c.loop-j.of s) empty c.loop-j.invariant)

@@ -2,9 +2,7 @@ use Rattle.wrp_euler.proofs.TrailLaws.{run_begins, run_goes, run_stops, work_goe
 use Rattle.wrp_euler.proofs.trail.Trail.run.Goals as goal
 
 pub loop-trail-init : goal.loop-trail-init
-loop-trail-init c =
-    let began = c.in_ok-trail.ensures in
-    run_begins c.args.graph.now c.args.counts.now c.args.base c.in_ok-trail.trail began.trail began.base began.left began.path began.done
+loop-trail-init c = run_begins c.args.graph.now c.args.counts.now c.args.base c.in_ok-trail.trail c.in_ok-trail.ensures
 
 pub loop-trail-preserved : goal.loop-trail-preserved
 loop-trail-preserved c =

@@ -9,8 +9,8 @@ use Rattle.wrp_rules.specs.declared.rule.Rule.{Rule}
 use Rattle.wrp_rules.specs.declared.rule.Rule.TheVariants as rules
 use Rattle.wrp_rules.specs.Nodes.{Standing, standing, start, after}
 use Rattle.wrp_rules.specs.Rules.{broken_rule, first_broken, has_number_rules, is_alone, rules_of, is_count, is_from_one, are_pairs, are_multipliers}
-use Rattle.wrp_laws.proofs.WorkedTowns.{IsRefused, windy_street}
-use Rattle.wrp_laws.proofs.WorkedLists.{there_and_back}
+use Rattle.wrp_worked.proofs.Towns.{IsRefused, windy_street}
+use Rattle.wrp_worked.proofs.Lists.{there_and_back}
 
 -- the same cut so many times
 abbrev pub cuts : ℕ → List Record

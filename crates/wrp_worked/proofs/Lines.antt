@@ -6,8 +6,8 @@ use Rattle.wrp_rules.specs.declared.record.Record.TheVariants.{Bound}
 use Rattle.wrp_rules.specs.declared.record.End.TheVariants.{Optimal}
 use Rattle.wrp_rules.specs.Lines.{line_of}
 use Rattle.wrp_rules.specs.Proofs.{version_1, IsProofBy, ended}
-use Rattle.wrp_laws.proofs.WorkedTowns.{windy_street}
-use Rattle.wrp_laws.proofs.WorkedLists.{odd_list}
+use Rattle.wrp_worked.proofs.Towns.{windy_street}
+use Rattle.wrp_worked.proofs.Lists.{odd_list}
 
 -- the line of a bound
 pub bound_is_written : line_of (Bound 0 2 ((1, 1) ∷ (3, 5) ∷ [])) ≡ codes "b 0 2 1:1 3:5"

@@ -2,7 +2,7 @@
 use Rattle.std.proofs.Common.{◌≡◌, refl}
 use Rattle.wrp_town.specs.Classes.{class_of}
 use Rattle.wrp_town.specs.declared.class.Class.TheVariants as classes
-use Rattle.wrp_laws.proofs.WorkedTowns.{no_street, round_trip, windy_street, one_way_street, two_parts, loop_street, chained_parts}
+use Rattle.wrp_worked.proofs.Towns.{no_street, round_trip, windy_street, one_way_street, two_parts, loop_street, chained_parts}
 
 -- equal costs both ways
 pub ring_is_rural : class_of round_trip ≡ classes.Rural

@@ -1,14 +1,17 @@
 -- Small towns on which the rules of records are worked out, and what it is to accept a list or to refuse a record.
-use Rattle.std.specs.Prelude.{codes}
-use Rattle.std.proofs.Common.{◌≡◌, ℕ, true, false, List, [], ◌∷◌, ◌++◌, Option, None, Some, refl, arith}
+use Rattle.std.specs.Prelude.{codes, length, nat_le, ◌&&◌}
+use Rattle.std.proofs.Common.{◌≡◌, ℕ, Bool, true, false, List, [], ◌∷◌, ◌++◌, Option, None, Some, refl}
+use Rattle.std.specs.List.{list_all}
 use Rattle.std.specs.Str.{is_utf8, chars}
 use lib.Utf8.{encode}
+use Rattle.std.proofs.lemmas.Bool.{and_parts, leb-true}
 use Rattle.wrp_town.specs.declared.street.Need.{Need}
 use Rattle.wrp_town.specs.declared.street.Need.TheVariants.{No, Either, Forward, Backward, Both}
 use Rattle.wrp_town.specs.declared.street.Street.{Street}
 use Rattle.wrp_town.specs.declared.street.Step.{Step}
 use Rattle.wrp_town.specs.declared.town.Town.{Town}
-use Rattle.wrp_town.specs.Streets.{IsTown}
+use Rattle.wrp_town.specs.Names.{is_name}
+use Rattle.wrp_town.specs.Streets.{IsTown, is_street, demands_from, are_different, come_in_order, ends_of}
 use Rattle.wrp_rules.specs.declared.record.Record.{Record}
 use Rattle.wrp_rules.specs.declared.record.End.{End}
 use Rattle.wrp_rules.specs.declared.rule.Rule.{Rule}
@@ -35,6 +38,33 @@ back s = record { street = s; back = true }
 abbrev pub road : List ℕ → ℕ → ℕ → Option ℕ → Option ℕ → Need → Street
 road name from to forward backward need = record { name = name; from = from; to = to; forward = forward; backward = backward; need = need }
 
+-- what makes a town of junctions and streets, as one test
+abbrev pub makes_town : List (List ℕ) → List Street → Bool
+makes_town names roads =
+    nat_le (length names) 2000 && (nat_le (length roads) 4000 && (nat_le (length (demands_from 0 roads)) 4000
+    && (list_all is_name names && (are_different names && (list_all (is_street (length names)) roads && come_in_order (length names) 0 (ends_of roads))))))
+
+pub IsTown-from_test : (names : List (List ℕ)) (roads : List Street) → makes_town names roads ≡ true → IsTown names roads
+IsTown-from_test names roads passes =
+    let a = and_parts _ _ passes in
+    let b = and_parts _ _ a.1 in
+    let c = and_parts _ _ b.1 in
+    let d = and_parts _ _ c.1 in
+    let e = and_parts _ _ d.1 in
+    let f = and_parts _ _ e.1 in
+    record {
+      few_junctions = leb-true _ _ a.0;
+      few_streets = leb-true _ _ b.0;
+      few_demands = leb-true _ _ c.0;
+      named = d.0;
+      different = e.0;
+      sound = f.0;
+      in_order = f.1;
+    }
+
+abbrev pub town_of : (names : List (List ℕ)) (roads : List Street) → makes_town names roads ≡ true → Town
+town_of names roads passes = record { junctions = names; streets = roads; well_formed = IsTown-from_test names roads passes }
+
 abbrev pub no_names : List (List ℕ)
 no_names = []
 
@@ -54,20 +84,12 @@ four_names = codes "A" ∷ codes "B" ∷ codes "C" ∷ codes "D" ∷ []
 abbrev pub no_street_roads : List Street
 no_street_roads = []
 
-pub no_street_is_town : IsTown no_names no_street_roads
+pub no_street_is_one : makes_town no_names no_street_roads ≡ true
 unfolding is_utf8 chars encode
-no_street_is_town = record {
-  few_junctions = omega arith;
-  few_streets = omega arith;
-  few_demands = omega arith;
-  named = refl;
-  different = refl;
-  sound = refl;
-  in_order = refl;
-}
+no_street_is_one = refl
 
 abbrev pub no_street : Town
-no_street = record { junctions = no_names; streets = no_street_roads; well_formed = no_street_is_town }
+no_street = town_of no_names no_street_roads no_street_is_one
 
 -- three required streets in a ring
 abbrev pub round_trip_roads : List Street
@@ -76,80 +98,48 @@ round_trip_roads =
     road (codes "bc") 1 2 (Some 4) (Some 4) Either ∷
     road (codes "ca") 2 0 (Some 5) (Some 5) Either ∷ []
 
-pub round_trip_is_town : IsTown three_names round_trip_roads
+pub round_trip_is_one : makes_town three_names round_trip_roads ≡ true
 unfolding is_utf8 chars encode
-round_trip_is_town = record {
-  few_junctions = omega arith;
-  few_streets = omega arith;
-  few_demands = omega arith;
-  named = refl;
-  different = refl;
-  sound = refl;
-  in_order = refl;
-}
+round_trip_is_one = refl
 
 abbrev pub round_trip : Town
-round_trip = record { junctions = three_names; streets = round_trip_roads; well_formed = round_trip_is_town }
+round_trip = town_of three_names round_trip_roads round_trip_is_one
 
 -- one required street, dearer one way than the other
 abbrev pub windy_street_roads : List Street
 windy_street_roads =
     road (codes "e") 0 1 (Some 2) (Some 3) Either ∷ []
 
-pub windy_street_is_town : IsTown two_names windy_street_roads
+pub windy_street_is_one : makes_town two_names windy_street_roads ≡ true
 unfolding is_utf8 chars encode
-windy_street_is_town = record {
-  few_junctions = omega arith;
-  few_streets = omega arith;
-  few_demands = omega arith;
-  named = refl;
-  different = refl;
-  sound = refl;
-  in_order = refl;
-}
+windy_street_is_one = refl
 
 abbrev pub windy_street : Town
-windy_street = record { junctions = two_names; streets = windy_street_roads; well_formed = windy_street_is_town }
+windy_street = town_of two_names windy_street_roads windy_street_is_one
 
 -- one required street that leads nowhere back
 abbrev pub one_way_street_roads : List Street
 one_way_street_roads =
     road (codes "e") 0 1 (Some 2) None Either ∷ []
 
-pub one_way_street_is_town : IsTown two_names one_way_street_roads
+pub one_way_street_is_one : makes_town two_names one_way_street_roads ≡ true
 unfolding is_utf8 chars encode
-one_way_street_is_town = record {
-  few_junctions = omega arith;
-  few_streets = omega arith;
-  few_demands = omega arith;
-  named = refl;
-  different = refl;
-  sound = refl;
-  in_order = refl;
-}
+one_way_street_is_one = refl
 
 abbrev pub one_way_street : Town
-one_way_street = record { junctions = two_names; streets = one_way_street_roads; well_formed = one_way_street_is_town }
+one_way_street = town_of two_names one_way_street_roads one_way_street_is_one
 
 -- one required street without a legal direction
 abbrev pub closed_street_roads : List Street
 closed_street_roads =
     road (codes "e") 0 1 None None Either ∷ []
 
-pub closed_street_is_town : IsTown two_names closed_street_roads
+pub closed_street_is_one : makes_town two_names closed_street_roads ≡ true
 unfolding is_utf8 chars encode
-closed_street_is_town = record {
-  few_junctions = omega arith;
-  few_streets = omega arith;
-  few_demands = omega arith;
-  named = refl;
-  different = refl;
-  sound = refl;
-  in_order = refl;
-}
+closed_street_is_one = refl
 
 abbrev pub closed_street : Town
-closed_street = record { junctions = two_names; streets = closed_street_roads; well_formed = closed_street_is_town }
+closed_street = town_of two_names closed_street_roads closed_street_is_one
 
 -- two required streets with a dear one between them
 abbrev pub two_parts_roads : List Street
@@ -158,20 +148,12 @@ two_parts_roads =
     road (codes "f") 1 2 (Some 10) (Some 10) No ∷
     road (codes "g") 2 3 (Some 1) (Some 1) Either ∷ []
 
-pub two_parts_is_town : IsTown four_names two_parts_roads
+pub two_parts_is_one : makes_town four_names two_parts_roads ≡ true
 unfolding is_utf8 chars encode
-two_parts_is_town = record {
-  few_junctions = omega arith;
-  few_streets = omega arith;
-  few_demands = omega arith;
-  named = refl;
-  different = refl;
-  sound = refl;
-  in_order = refl;
-}
+two_parts_is_one = refl
 
 abbrev pub two_parts : Town
-two_parts = record { junctions = four_names; streets = two_parts_roads; well_formed = two_parts_is_town }
+two_parts = town_of four_names two_parts_roads two_parts_is_one
 
 -- an arc that both required streets need
 abbrev pub shared_arc_roads : List Street
@@ -181,40 +163,24 @@ shared_arc_roads =
     road (codes "c") 2 0 (Some 1) None No ∷
     road (codes "d") 1 0 (Some 5) None Either ∷ []
 
-pub shared_arc_is_town : IsTown three_names shared_arc_roads
+pub shared_arc_is_one : makes_town three_names shared_arc_roads ≡ true
 unfolding is_utf8 chars encode
-shared_arc_is_town = record {
-  few_junctions = omega arith;
-  few_streets = omega arith;
-  few_demands = omega arith;
-  named = refl;
-  different = refl;
-  sound = refl;
-  in_order = refl;
-}
+shared_arc_is_one = refl
 
 abbrev pub shared_arc : Town
-shared_arc = record { junctions = three_names; streets = shared_arc_roads; well_formed = shared_arc_is_town }
+shared_arc = town_of three_names shared_arc_roads shared_arc_is_one
 
 -- a street from a junction to itself
 abbrev pub loop_street_roads : List Street
 loop_street_roads =
     road (codes "l") 0 0 (Some 7) None Either ∷ []
 
-pub loop_street_is_town : IsTown one_name loop_street_roads
+pub loop_street_is_one : makes_town one_name loop_street_roads ≡ true
 unfolding is_utf8 chars encode
-loop_street_is_town = record {
-  few_junctions = omega arith;
-  few_streets = omega arith;
-  few_demands = omega arith;
-  named = refl;
-  different = refl;
-  sound = refl;
-  in_order = refl;
-}
+loop_street_is_one = refl
 
 abbrev pub loop_street : Town
-loop_street = record { junctions = one_name; streets = loop_street_roads; well_formed = loop_street_is_town }
+loop_street = town_of one_name loop_street_roads loop_street_is_one
 
 -- a required street and a cheaper one beside it
 abbrev pub parallel_streets_roads : List Street
@@ -222,80 +188,48 @@ parallel_streets_roads =
     road (codes "a") 0 1 (Some 2) (Some 3) Either ∷
     road (codes "b") 0 1 (Some 1) (Some 9) No ∷ []
 
-pub parallel_streets_is_town : IsTown two_names parallel_streets_roads
+pub parallel_streets_is_one : makes_town two_names parallel_streets_roads ≡ true
 unfolding is_utf8 chars encode
-parallel_streets_is_town = record {
-  few_junctions = omega arith;
-  few_streets = omega arith;
-  few_demands = omega arith;
-  named = refl;
-  different = refl;
-  sound = refl;
-  in_order = refl;
-}
+parallel_streets_is_one = refl
 
 abbrev pub parallel_streets : Town
-parallel_streets = record { junctions = two_names; streets = parallel_streets_roads; well_formed = parallel_streets_is_town }
+parallel_streets = town_of two_names parallel_streets_roads parallel_streets_is_one
 
 -- a street that is required in both directions
 abbrev pub both_ways_roads : List Street
 both_ways_roads =
     road (codes "e") 0 1 (Some 2) (Some 3) Both ∷ []
 
-pub both_ways_is_town : IsTown two_names both_ways_roads
+pub both_ways_is_one : makes_town two_names both_ways_roads ≡ true
 unfolding is_utf8 chars encode
-both_ways_is_town = record {
-  few_junctions = omega arith;
-  few_streets = omega arith;
-  few_demands = omega arith;
-  named = refl;
-  different = refl;
-  sound = refl;
-  in_order = refl;
-}
+both_ways_is_one = refl
 
 abbrev pub both_ways : Town
-both_ways = record { junctions = two_names; streets = both_ways_roads; well_formed = both_ways_is_town }
+both_ways = town_of two_names both_ways_roads both_ways_is_one
 
 -- a street that is required in its first direction
 abbrev pub one_direction_roads : List Street
 one_direction_roads =
     road (codes "e") 0 1 (Some 2) (Some 3) Forward ∷ []
 
-pub one_direction_is_town : IsTown two_names one_direction_roads
+pub one_direction_is_one : makes_town two_names one_direction_roads ≡ true
 unfolding is_utf8 chars encode
-one_direction_is_town = record {
-  few_junctions = omega arith;
-  few_streets = omega arith;
-  few_demands = omega arith;
-  named = refl;
-  different = refl;
-  sound = refl;
-  in_order = refl;
-}
+one_direction_is_one = refl
 
 abbrev pub one_direction : Town
-one_direction = record { junctions = two_names; streets = one_direction_roads; well_formed = one_direction_is_town }
+one_direction = town_of two_names one_direction_roads one_direction_is_one
 
 -- a street that is required in a direction that isn't legal
 abbrev pub wrong_direction_roads : List Street
 wrong_direction_roads =
     road (codes "e") 0 1 None (Some 3) Forward ∷ []
 
-pub wrong_direction_is_town : IsTown two_names wrong_direction_roads
+pub wrong_direction_is_one : makes_town two_names wrong_direction_roads ≡ true
 unfolding is_utf8 chars encode
-wrong_direction_is_town = record {
-  few_junctions = omega arith;
-  few_streets = omega arith;
-  few_demands = omega arith;
-  named = refl;
-  different = refl;
-  sound = refl;
-  in_order = refl;
-}
+wrong_direction_is_one = refl
 
 abbrev pub wrong_direction : Town
-wrong_direction = record { junctions = two_names; streets = wrong_direction_roads; well_formed = wrong_direction_is_town }
+wrong_direction = town_of two_names wrong_direction_roads wrong_direction_is_one
 
 -- a street that is required in its dear direction
 abbrev pub dear_return_roads : List Street
@@ -304,40 +238,24 @@ dear_return_roads =
     road (codes "bc") 1 2 (Some 1) (Some 1) No ∷
     road (codes "ca") 2 0 (Some 1) (Some 1) No ∷ []
 
-pub dear_return_is_town : IsTown three_names dear_return_roads
+pub dear_return_is_one : makes_town three_names dear_return_roads ≡ true
 unfolding is_utf8 chars encode
-dear_return_is_town = record {
-  few_junctions = omega arith;
-  few_streets = omega arith;
-  few_demands = omega arith;
-  named = refl;
-  different = refl;
-  sound = refl;
-  in_order = refl;
-}
+dear_return_is_one = refl
 
 abbrev pub dear_return : Town
-dear_return = record { junctions = three_names; streets = dear_return_roads; well_formed = dear_return_is_town }
+dear_return = town_of three_names dear_return_roads dear_return_is_one
 
 -- a street above the costs of small towns
 abbrev pub costly_street_roads : List Street
 costly_street_roads =
     road (codes "e") 0 1 (Some 1000001) (Some 3) Either ∷ []
 
-pub costly_street_is_town : IsTown two_names costly_street_roads
+pub costly_street_is_one : makes_town two_names costly_street_roads ≡ true
 unfolding is_utf8 chars encode
-costly_street_is_town = record {
-  few_junctions = omega arith;
-  few_streets = omega arith;
-  few_demands = omega arith;
-  named = refl;
-  different = refl;
-  sound = refl;
-  in_order = refl;
-}
+costly_street_is_one = refl
 
 abbrev pub costly_street : Town
-costly_street = record { junctions = two_names; streets = costly_street_roads; well_formed = costly_street_is_town }
+costly_street = town_of two_names costly_street_roads costly_street_is_one
 
 -- two streets that join the ends of a chain of parts
 abbrev pub chained_parts_roads : List Street
@@ -350,20 +268,12 @@ chained_parts_roads =
     road (codes "g") 2 3 (Some 1) (Some 1) No ∷
     road (codes "h") 3 1 (Some 1) (Some 1) No ∷ []
 
-pub chained_parts_is_town : IsTown four_names chained_parts_roads
+pub chained_parts_is_one : makes_town four_names chained_parts_roads ≡ true
 unfolding is_utf8 chars encode
-chained_parts_is_town = record {
-  few_junctions = omega arith;
-  few_streets = omega arith;
-  few_demands = omega arith;
-  named = refl;
-  different = refl;
-  sound = refl;
-  in_order = refl;
-}
+chained_parts_is_one = refl
 
 abbrev pub chained_parts : Town
-chained_parts = record { junctions = four_names; streets = chained_parts_roads; well_formed = chained_parts_is_town }
+chained_parts = town_of four_names chained_parts_roads chained_parts_is_one
 
 abbrev pub nine_names : List (List ℕ)
 nine_names = four_names ++ codes "E" ∷ codes "F" ∷ codes "G" ∷ codes "H" ∷ codes "I" ∷ []
@@ -384,17 +294,9 @@ grid_roads =
     road (codes "s10") 6 7 (Some 1) (Some 1) Either ∷
     road (codes "s11") 7 8 (Some 1) (Some 1) Either ∷ []
 
-pub grid_is_town : IsTown nine_names grid_roads
+pub grid_is_one : makes_town nine_names grid_roads ≡ true
 unfolding is_utf8 chars encode
-grid_is_town = record {
-  few_junctions = omega arith;
-  few_streets = omega arith;
-  few_demands = omega arith;
-  named = refl;
-  different = refl;
-  sound = refl;
-  in_order = refl;
-}
+grid_is_one = refl
 
 abbrev pub grid : Town
-grid = record { junctions = nine_names; streets = grid_roads; well_formed = grid_is_town }
+grid = town_of nine_names grid_roads grid_is_one

@@ -2,8 +2,8 @@
 use Rattle.std.proofs.Common.{◌+◌, ◌^◌, [], ◌∷◌, refl}
 use Rattle.wrp_rules.specs.declared.record.Record.TheVariants.{Tour, Conn, Odd, Kc, Bound, Empty, Apart, Point, Blind, Split, Labels}
 use Rattle.wrp_rules.specs.declared.rule.Rule.TheVariants as rules
-use Rattle.wrp_laws.proofs.WorkedTowns.{IsRefused, forth, back, windy_street, one_way_street, two_parts, dear_return, chained_parts}
-use Rattle.wrp_laws.proofs.WorkedLists.{there_and_back, parts_tour, chain_tour, odd_list}
+use Rattle.wrp_worked.proofs.Towns.{IsRefused, forth, back, windy_street, one_way_street, two_parts, dear_return, chained_parts}
+use Rattle.wrp_worked.proofs.Lists.{there_and_back, parts_tour, chain_tour, odd_list}
 
 -- a bound of 0 isn't above the root's bound of 0
 pub bound_rises : IsRefused windy_street (there_and_back 5 ∷ []) (Bound 0 1 []) rules.Low

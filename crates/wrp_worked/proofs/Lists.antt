@@ -1,5 +1,5 @@
 -- Valid lists of records and the ends that agree with them, worked out on small towns.
-use Rattle.std.proofs.Common.{◌≡◌, ℕ, pos, false, List, [], ◌∷◌, Some, refl}
+use Rattle.std.proofs.Common.{◌≡◌, ℕ, pos, false, List, [], ◌∷◌, ◌++◌, Some, refl}
 use Rattle.std.specs.Prelude.{map}
 use Rattle.wrp_town.specs.Arcs.{is_small}
 use Rattle.wrp_rules.specs.declared.record.Record.{Record}
@@ -9,7 +9,7 @@ use Rattle.wrp_sums.specs.Duality.{dual_value}
 use Rattle.wrp_rules.specs.Rows.{row_at, kc_row}
 use Rattle.wrp_rules.specs.Nodes.{standing, lower, program, root}
 use Rattle.wrp_rules.specs.Lists.{agrees}
-use Rattle.wrp_laws.proofs.WorkedTowns.{IsAccepted, forth, back, no_street, round_trip, windy_street, one_way_street, closed_street, two_parts, shared_arc, loop_street, parallel_streets, both_ways, one_direction, wrong_direction, dear_return, costly_street, chained_parts, grid}
+use Rattle.wrp_worked.proofs.Towns.{IsAccepted, forth, back, no_street, round_trip, windy_street, one_way_street, closed_street, two_parts, shared_arc, loop_street, parallel_streets, both_ways, one_direction, wrong_direction, dear_return, costly_street, chained_parts, grid}
 
 -- the one tour of a single street, there and back
 abbrev pub there_and_back : ℕ → Record
@@ -80,9 +80,7 @@ abbrev pub pointed : List Record
 pointed = there_and_back 5 ∷ Bound 0 2 ((1, 1) ∷ (2, 5) ∷ []) ∷ Point 0 2 ((0, 1) ∷ (1, 1) ∷ []) ∷ []
 
 pub point_allows_a_split :
-    IsAccepted windy_street
-    (there_and_back 5 ∷ Bound 0 2 ((1, 1) ∷ (2, 5) ∷ []) ∷ Point 0 2 ((0, 1) ∷ (1, 1) ∷ []) ∷ Split 0 0 0 ∷ Empty 1 ((0, 1) ∷ (2, 1) ∷ []) ∷ Bound 2 1 ((1, 3) ∷ []) ∷ [])
-    (Optimal 5)
+    IsAccepted windy_street (pointed ++ Split 0 0 0 ∷ Empty 1 ((0, 1) ∷ (2, 1) ∷ []) ∷ Bound 2 1 ((1, 3) ∷ []) ∷ []) (Optimal 5)
 point_allows_a_split = (refl, refl)
 
 -- the bound there is 5 over 2, rounded up
@@ -134,9 +132,11 @@ shared_arc_is_used_twice = (refl, refl)
 pub loop_is_a_tour : IsAccepted loop_street (Tour 7 (forth 0 ∷ []) ∷ Bound 0 1 ((1, 7) ∷ []) ∷ []) (Optimal 7)
 loop_is_a_tour = (refl, refl)
 
--- each direction has a demand of its own
-pub both_directions_are_served :
-    IsAccepted both_ways (there_and_back 5 ∷ Bound 0 1 ((2, 2) ∷ (3, 3) ∷ []) ∷ []) (Optimal 5)
+-- each direction has a demand of its own: its bound is two demands times the costs of their arcs
+abbrev pub both_ways_list : List Record
+both_ways_list = there_and_back 5 ∷ Bound 0 1 ((2, 2) ∷ (3, 3) ∷ []) ∷ []
+
+pub both_directions_are_served : IsAccepted both_ways both_ways_list (Optimal 5)
 both_directions_are_served = (refl, refl)
 
 -- a demand of one direction, and balance for the way back

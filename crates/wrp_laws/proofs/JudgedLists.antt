@@ -1,5 +1,5 @@
 -- What a valid list of tours and of bounds without negative reduced costs says of every tour.
-use Rattle.std.proofs.Common.{◌≡◌, ℕ, zero, suc, ◌<◌, ◌≤◌, ◌^◌, min, Bool, true, false, ◌&&◌, ◌||◌, nat_le, ℤ, pos, ◌≤ℤ◌, List, [], ◌∷◌, ◌++◌, length, get_or, fold, Option, None, Some, is_none, IfSome, ap, refl, sym, ◌∙◌, subst, arith, ⊎_elim}
+use Rattle.std.proofs.Common.{◌≡◌, ℕ, zero, suc, ◌<◌, ◌≤◌, ◌^◌, min, Bool, true, false, ◌&&◌, ◌||◌, nat_le, ℤ, pos, ◌≤ℤ◌, List, [], ◌∷◌, ◌++◌, length, get_or, fold, Option, None, Some, is_none, IfSome, ap, refl, sym, ◌∙◌, subst, arith, ⊎_elim, append-nil}
 use Rattle.std.specs.Option.{option_map_or}
 use Rattle.std.specs.List.{list_any}
 use Rattle.std.proofs.lemmas.Bool.{eqb-true, ltb-true, leb-true, and_parts, and_from, or_from, false≢true, cases_lt}
@@ -17,7 +17,8 @@ use Rattle.wrp_rules.specs.Nodes.{Node, root, Standing, start, bound_value, node
 use Rattle.wrp_rules.specs.Rules.{is_labels, has_number_rules, is_from_one, is_count, are_multipliers, is_alone, node_is_there, rows_are_there, first_broken, rules_of, broken_rule}
 use Rattle.wrp_rules.specs.Lists.{goes_on, is_valid}
 use Rattle.wrp_rules.specs.Judged.{has_plain_costs, is_judged, go_on_judged, are_judged}
-use Rattle.wrp_laws.proofs.PlainBounds.{is_plain, plain_bound}
+use Rattle.wrp_laws.specs.Bounds.{is_dual_feasible}
+use Rattle.wrp_laws.proofs.DualBounds.{feasible_bound}
 
 -- ---- rules
 
@@ -42,7 +43,7 @@ pub record HasTour (town : Town) (cost : ℕ) : Type 0 where
 
 -- the rows are those of the town, the root alone stands with a bound of every tour, upper is the cost of a tour, and
 -- no record is a Labels record
-pub record StandsPlain (town : Town) (s : Standing) : Type 0 where
+pub record StandsJudged (town : Town) (s : Standing) : Type 0 where
   pub rows : s.rows ≡ base_rows town
   pub bound : ℤ
   pub nodes : s.nodes ≡ with_bound bound (root town) ∷ []
@@ -50,8 +51,8 @@ pub record StandsPlain (town : Town) (s : Standing) : Type 0 where
   pub upper : IfSome s.upper (HasTour town)
   pub unlabelled : list_any is_labels s.records ≡ false
 
-starts_plain : (town : Town) → StandsPlain town (start town)
-starts_plain town = record {
+starts_judged : (town : Town) → StandsJudged town (start town)
+starts_judged town = record {
   rows = refl;
   bound = pos 0;
   nodes = refl;
@@ -59,10 +60,6 @@ starts_plain town = record {
   upper = tt;
   unlabelled = refl;
 }
-
-nothing_more : {X : Type 0} (xs : List X) → xs ++ [] ≡ xs
-nothing_more [] = refl
-nothing_more (x ∷ xs) = ap (λ ys. x ∷ ys) (nothing_more xs)
 
 still_unlabelled : (records : List Record) (item : Record) → list_any is_labels records ≡ false → is_labels item ≡ false → list_any is_labels (records ++ item ∷ []) ≡ false
 still_unlabelled records item before here =
@@ -86,9 +83,9 @@ tour_there town s cost steps sound =
     let all : serves_all town steps ≡ true = kept 4 in
     record { tour = steps; serves = and_from (is_closed_walk town steps) (serves_all town steps) walk all; attained = eqb-true (walk_cost town steps) cost (kept 5) }
 
-after_tour : (town : Town) (s : Standing) (cost : ℕ) (steps : List Step) → is_none (broken_rule town s (Tour cost steps)) ≡ true → StandsPlain town s → StandsPlain town (after town s (Tour cost steps))
+after_tour : (town : Town) (s : Standing) (cost : ℕ) (steps : List Step) → is_none (broken_rule town s (Tour cost steps)) ≡ true → StandsJudged town s → StandsJudged town (after town s (Tour cost steps))
 after_tour town s cost steps sound stands = record {
-  rows = nothing_more s.rows ∙ stands.rows;
+  rows = append-nil s.rows ∙ stands.rows;
   bound = stands.bound;
   nodes = stands.nodes;
   below = stands.below;
@@ -117,44 +114,44 @@ divides town s node den mult sound =
     let least : 1 ≤ den = leb-true 1 den (and_parts (nat_le 1 den) (nat_le den (2 ^ 40)) range.1).0 in
     omega arith
 
-node_only : (town : Town) (s : Standing) (node : ℕ) (stands : StandsPlain town s) → node < length s.nodes → node_at town s node ≡ with_bound stands.bound (root town)
+node_only : (town : Town) (s : Standing) (node : ℕ) (stands : StandsJudged town s) → node < length s.nodes → node_at town s node ≡ with_bound stands.bound (root town)
 node_only town s node stands inside =
     let long = ap length stands.nodes in
     let first : node ≡ 0 = omega arith in
     ap (λ (k : ℕ). get_or s.nodes k (root town)) first ∙ ap (λ (nodes : List Node). get_or nodes 0 (root town)) stands.nodes
 
-bound_below : (town : Town) (rows : List Row) (node : Node) (den : ℕ) (mult : List (ℕ × ℕ)) (steps : List Step) → rows ≡ base_rows town → 0 < den → ((arc : ℕ) → node.lo arc ≡ 0) → is_plain town rows node den mult ≡ true → is_tour town steps ≡ true → bound_value town rows node den mult ≤ℤ pos (walk_cost town steps)
-bound_below town rows node den mult steps same positive bare plain tour =
+bound_below : (town : Town) (rows : List Row) (node : Node) (den : ℕ) (mult : List (ℕ × ℕ)) (steps : List Step) → rows ≡ base_rows town → 0 < den → ((arc : ℕ) → node.lo arc ≡ 0) → is_dual_feasible town rows node den mult ≡ true → is_tour town steps ≡ true → bound_value town rows node den mult ≤ℤ pos (walk_cost town steps)
+bound_below town rows node den mult steps same positive bare feasible tour =
     subst (λ (rs : List Row). bound_value town rs node den mult ≤ℤ pos (walk_cost town steps)) (sym same)
-    (plain_bound town node den mult steps positive bare (subst (λ (rs : List Row). is_plain town rs node den mult ≡ true) same plain) tour)
+    (feasible_bound town node den mult steps positive bare (subst (λ (rs : List Row). is_dual_feasible town rs node den mult ≡ true) same feasible) tour)
 
-after_bound : (town : Town) (s : Standing) (node den : ℕ) (mult : List (ℕ × ℕ)) → is_none (broken_rule town s (Bound node den mult)) ≡ true → has_plain_costs town s node den mult ≡ true → StandsPlain town s → StandsPlain town (after town s (Bound node den mult))
-after_bound town s node den mult sound plain stands =
+after_bound : (town : Town) (s : Standing) (node den : ℕ) (mult : List (ℕ × ℕ)) → is_none (broken_rule town s (Bound node den mult)) ≡ true → has_plain_costs town s node den mult ≡ true → StandsJudged town s → StandsJudged town (after town s (Bound node den mult))
+after_bound town s node den mult sound feasible stands =
     let inside = node_there town s node den mult sound in
     let only = node_only town s node stands inside in
     record {
-      rows = nothing_more s.rows ∙ stands.rows;
+      rows = append-nil s.rows ∙ stands.rows;
       bound = bound_value town s.rows (node_at town s node) den mult;
       nodes = changed_only (with_bound (bound_value town s.rows (node_at town s node) den mult)) node s.nodes (with_bound stands.bound (root town)) stands.nodes inside;
-      below = λ steps tour. bound_below town s.rows (node_at town s node) den mult steps stands.rows (divides town s node den mult sound) (λ arc. ap (λ (n : Node). n.lo arc) only) plain tour;
+      below = λ steps tour. bound_below town s.rows (node_at town s node) den mult steps stands.rows (divides town s node den mult sound) (λ arc. ap (λ (n : Node). n.lo arc) only) feasible tour;
       upper = stands.upper;
       unlabelled = still_unlabelled s.records (Bound node den mult) stands.unlabelled refl;
     }
 
 -- ---- a list
 
-after_judged : (town : Town) (s : Standing) (item : Record) → is_none (broken_rule town s item) ≡ true → is_judged town s item ≡ true → StandsPlain town s → StandsPlain town (after town s item)
+after_judged : (town : Town) (s : Standing) (item : Record) → is_none (broken_rule town s item) ≡ true → is_judged town s item ≡ true → StandsJudged town s → StandsJudged town (after town s item)
 after_judged town s (Tour cost steps) sound judged stands = after_tour town s cost steps sound stands
 after_judged town s (Bound node den mult) sound judged stands = after_bound town s node den mult sound judged stands
 after_judged town s _ sound judged stands = absurd (false≢true judged)
 
-goes_on_plain : (town : Town) (s : Standing) (items : List Record) → goes_on town s items ≡ true → go_on_judged town s items ≡ true → StandsPlain town s → StandsPlain town (fold (after town) s items)
-goes_on_plain town s [] valid judged stands = stands
-goes_on_plain town s (item ∷ items) valid judged stands =
+goes_on_judged : (town : Town) (s : Standing) (items : List Record) → goes_on town s items ≡ true → go_on_judged town s items ≡ true → StandsJudged town s → StandsJudged town (fold (after town) s items)
+goes_on_judged town s [] valid judged stands = stands
+goes_on_judged town s (item ∷ items) valid judged stands =
     let sound = and_parts (is_none (broken_rule town s item)) (goes_on town (after town s item) items) valid in
-    let plain = and_parts (is_judged town s item) (go_on_judged town (after town s item) items) judged in
-    goes_on_plain town (after town s item) items sound.1 plain.1 (after_judged town s item sound.0 plain.0 stands)
+    let kinds = and_parts (is_judged town s item) (go_on_judged town (after town s item) items) judged in
+    goes_on_judged town (after town s item) items sound.1 kinds.1 (after_judged town s item sound.0 kinds.0 stands)
 
 -- what a valid list of judged records stands for
-pub stands_plain : (town : Town) (records : List Record) → is_valid town records ≡ true → are_judged town records ≡ true → StandsPlain town (standing town records)
-stands_plain town records valid judged = goes_on_plain town (start town) records valid judged (starts_plain town)
+pub stands_judged : (town : Town) (records : List Record) → is_valid town records ≡ true → are_judged town records ≡ true → StandsJudged town (standing town records)
+stands_judged town records valid judged = goes_on_judged town (start town) records valid judged (starts_judged town)

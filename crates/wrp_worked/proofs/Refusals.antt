@@ -3,8 +3,8 @@ use Rattle.std.proofs.Common.{List, [], ◌∷◌, refl}
 use Rattle.wrp_rules.specs.declared.record.Record.{Record}
 use Rattle.wrp_rules.specs.declared.record.Record.TheVariants.{Tour, Conn, Odd, Round, Kc, Bound, Apart, Point, Blind, Split, Labels}
 use Rattle.wrp_rules.specs.declared.rule.Rule.TheVariants as rules
-use Rattle.wrp_laws.proofs.WorkedTowns.{IsRefused, forth, back, windy_street, one_way_street, two_parts, chained_parts}
-use Rattle.wrp_laws.proofs.WorkedLists.{there_and_back, parts_tour, chain_tour}
+use Rattle.wrp_worked.proofs.Towns.{IsRefused, forth, back, windy_street, one_way_street, two_parts, chained_parts}
+use Rattle.wrp_worked.proofs.Lists.{there_and_back, parts_tour, chain_tour}
 
 -- the record of a tour for the refusals after it
 abbrev pub toured : List Record
