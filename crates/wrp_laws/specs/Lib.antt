@@ -1,3 +1,5 @@
 pub mod Meets
-pub mod Bounds
+pub mod Sides
+pub mod Boxes
+pub mod Points
 pub mod Ends
