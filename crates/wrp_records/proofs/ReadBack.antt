@@ -1,6 +1,7 @@
--- What was written is read back: the lines of a header and of records without bytes below the space
--- give that header and those records.
+-- What was written is read back: the lines of records without bytes below the space give those
+-- records.
 use Rattle.std.proofs.Common.{◌≡◌, ◌≤◌, ◌==◌, ◌||◌, ◌&&◌, ◌++◌, ◌∷◌, [], ℕ, List, Bool, true, false, Some, nat_le, refl, ap, ◌∙◌, arith}
+use Rattle.std.proofs.lemmas.Bool.{and_parts}
 use Rattle.std.proofs.lemmas.Bool.Decides.{nat_tests}
 use Rattle.std.proofs.lemmas.List.{append_assoc}
 use Rattle.std.specs.List.{list_all, list_any}
@@ -10,18 +11,9 @@ use Rattle.csv.specs.Writing.{default_writer, escaped, fields_text, is_blank, ne
 use Rattle.csv.specs.Writing.{field_text as csv_field_text}
 use Rattle.csv.specs.declared.parser.State.TheVariants as st
 use Rattle.csv.proofs.RoundTrip.{read-write-many}
-use Rattle.wrp_records.specs.Headers.{columns}
 use Rattle.wrp_records.specs.Lines.{after_commas, doubled, field_text, is_line, is_mark, is_printed, line_text, lines_text}
 use Rattle.wrp_records.specs.Streams.{records_left, records_of}
 use Rattle.wrp_records.proofs.Enough.{records_left-more, records_left-none}
-
-pub both_left : (a b : Bool) → (a && b) ≡ true → a ≡ true
-both_left true b e = refl
-both_left false b e = e
-
-pub both_right : (a b : Bool) → (a && b) ≡ true → b ≡ true
-both_right true b e = e
-both_right false b e = cc e
 
 -- a byte from the space on calls for csv's quotes where it is a comma or a double quote
 needs_byte-printed : (byte : ℕ) → nat_le 32 byte ≡ true → needs_byte default_writer byte ≡ is_mark byte
@@ -39,8 +31,8 @@ needs_byte-printed byte printed =
 needs-printed : (field : List ℕ) → is_printed field ≡ true → list_any (needs_byte default_writer) field ≡ list_any is_mark field
 needs-printed [] printed = refl
 needs-printed (byte ∷ bytes) printed =
-    let here = needs_byte-printed byte (both_left (nat_le 32 byte) (is_printed bytes) printed) in
-    let there = needs-printed bytes (both_right (nat_le 32 byte) (is_printed bytes) printed) in
+    let here = needs_byte-printed byte (and_parts (nat_le 32 byte) (is_printed bytes) printed).0 in
+    let there = needs-printed bytes (and_parts (nat_le 32 byte) (is_printed bytes) printed).1 in
     joined (needs_byte default_writer byte) (is_mark byte) _ _ here there
   where
     joined : (a b c d : Bool) → a ≡ b → c ≡ d → (a || c) ≡ (b || d)
@@ -60,8 +52,8 @@ unfolding fields_text after_commas
 fields_text-is [] printed = refl
 fields_text-is (field ∷ fields) printed =
     rw (
-      field_text-is field (both_left (is_printed field) (list_all is_printed fields) printed),
-      fields_text-is fields (both_right (is_printed field) (list_all is_printed fields) printed),
+      field_text-is field (and_parts (is_printed field) (list_all is_printed fields) printed).0,
+      fields_text-is fields (and_parts (is_printed field) (list_all is_printed fields) printed).1,
     ) refl
 
 row_text-is : (x y : List ℕ) (ys : List (List ℕ)) → list_all is_printed (x ∷ y ∷ ys) ≡ true
@@ -69,8 +61,8 @@ row_text-is : (x y : List ℕ) (ys : List (List ℕ)) → list_all is_printed (x
 unfolding is_blank line_text
 row_text-is x y ys printed =
     rw (
-      field_text-is x (both_left (is_printed x) (list_all is_printed (y ∷ ys)) printed),
-      fields_text-is (y ∷ ys) (both_right (is_printed x) (list_all is_printed (y ∷ ys)) printed),
+      field_text-is x (and_parts (is_printed x) (list_all is_printed (y ∷ ys)) printed).0,
+      fields_text-is (y ∷ ys) (and_parts (is_printed x) (list_all is_printed (y ∷ ys)) printed).1,
     )
     (append_assoc (field_text x) (after_commas (y ∷ ys)) (10 ∷ []))
 
@@ -81,7 +73,7 @@ unfolding is_line
 next_record-line [] tail line = cc line
 next_record-line (x ∷ []) tail line = cc line
 next_record-line (x ∷ y ∷ ys) tail line =
-    rw (← row_text-is x y ys (both_right _ (list_all is_printed (x ∷ y ∷ ys)) line)) (read-write-many x y ys tail)
+    rw (← row_text-is x y ys (and_parts _ (list_all is_printed (x ∷ y ∷ ys)) line).1) (read-write-many x y ys tail)
 
 -- written records are those that are left
 pub records_left-lines : (records : List (List (List ℕ))) → list_all is_line records ≡ true → records_left st.StartRecord (lines_text records) ≡ records
@@ -89,21 +81,10 @@ unfolding lines_text next_record
 records_left-lines [] lines = records_left-none st.StartRecord [] refl
 records_left-lines (fields ∷ records) lines =
     records_left-more st.StartRecord (line_text fields ++ lines_text records) (fields, st.StartRecord, lines_text records) refl
-    (next_record-line fields (lines_text records) (both_left (is_line fields) (list_all is_line records) lines))
-    ∙ ap (λ (rest : List (List (List ℕ))). fields ∷ rest) (records_left-lines records (both_right (is_line fields) (list_all is_line records) lines))
+    (next_record-line fields (lines_text records) (and_parts (is_line fields) (list_all is_line records) lines).0)
+    ∙ ap (λ (rest : List (List (List ℕ))). fields ∷ rest) (records_left-lines records (and_parts (is_line fields) (list_all is_line records) lines).1)
 
--- a table that begins with the header has no mark to drop
-strip_bom-header : (tail : List ℕ) → strip_bom (line_text columns ++ tail) ≡ line_text columns ++ tail
-unfolding strip_bom line_text field_text
-strip_bom-header tail = refl
-
-is_line-columns : is_line columns ≡ true
-unfolding is_line
-is_line-columns = refl
-
--- the lines of a header and of records read back as these
+-- the lines of records read back as these, where they begin with no mark
 pub records_of-lines : (records : List (List (List ℕ))) → list_all is_line records ≡ true
-    → records_of (lines_text (columns ∷ records)) ≡ columns ∷ records
-unfolding lines_text
-records_of-lines records lines =
-    rw (strip_bom-header (lines_text records)) (records_left-lines (columns ∷ records) (rw is_line-columns lines))
+    → strip_bom (lines_text records) ≡ lines_text records → records_of (lines_text records) ≡ records
+records_of-lines records lines bare = rw bare (records_left-lines records lines)

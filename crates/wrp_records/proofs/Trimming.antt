@@ -32,3 +32,5 @@ last_blank field others last e blank = rw e (trim_end-append_blank others last b
 -- another byte at the end keeps the field as it is
 pub last_stands : (field others : List ℕ) (last : ℕ) → field ≡ others ++ (last ∷ []) → is_blank last ≡ false → trim_end field ≡ field
 last_stands field others last e other = rw e (trim_end-append_other others last other)
+
+pub ruleset at_end = (last_blank, last_stands)

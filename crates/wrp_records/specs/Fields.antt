@@ -1,13 +1,17 @@
--- What one field of a table says: its text without blanks at the ends, and a cost.
-use Rattle.std.specs.Prelude.{ℕ, List, [], ◌∷◌, length, Bool, Option, Some, None, if◌then◌else◌, ◌==◌, ◌||◌, ◌&&◌, nat_le, codes}
-use Rattle.std.specs.Char.{is_ascii_digit}
+-- What one field of a table says without the blanks at its ends.
+use Rattle.std.specs.Prelude.{ℕ, List, [], ◌∷◌, Bool, if◌then◌else◌, ◌==◌, ◌||◌}
 use Rattle.std.specs.List.{list_all}
-use Rattle.std.specs.Str.{bytes_eq}
-use Rattle.std.specs.Str.Parse.{digits_value}
 
--- whether a byte is a space or a tab
+-- the byte of a space, and that of a tab
+abbrev pub space : ℕ
+space = 32
+
+abbrev pub tab : ℕ
+tab = 9
+
+-- whether a byte is a blank: a space or a tab
 abbrev pub is_blank : ℕ → Bool
-is_blank byte = (byte == 32) || (byte == 9)
+is_blank byte = (byte == space) || (byte == tab)
 
 -- a field without the blanks at its start
 unfoldable pub trim_start : List ℕ → List ℕ
@@ -22,27 +26,3 @@ trim_end (byte ∷ bytes) = if list_all is_blank (byte ∷ bytes) then [] else b
 -- a field without the blanks at both ends
 abbrev pub trimmed : List ℕ → List ℕ
 trimmed field = trim_end (trim_start field)
-
--- the largest cost
-abbrev pub cost_limit : ℕ
-cost_limit = 1000000000
-
--- whether a text is a dash
-abbrev pub is_dash : List ℕ → Bool
-is_dash text = bytes_eq text (codes "-")
-
--- whether a text is at most 10 digits that write at most the largest cost
-abbrev pub is_cost_number : List ℕ → Bool
-is_cost_number text = nat_le (length text) 10 && (list_all is_ascii_digit text && nat_le (digits_value 10 text) cost_limit)
-
--- what a text says of a direction: `Some None` for an illegal one, `Some (Some cost)` for a legal one, and `None` for a fault
-abbrev pub cost_of_text : List ℕ → Option (Option ℕ)
-cost_of_text text =
-    if length text == 0 then Some None
-    else if is_dash text then Some None
-    else if is_cost_number text then Some (Some (digits_value 10 text))
-    else None
-
--- what a cost field says, with the blanks at its ends left out
-unfoldable pub cost_of : List ℕ → Option (Option ℕ)
-cost_of field = cost_of_text (trimmed field)

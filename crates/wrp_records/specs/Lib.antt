@@ -1,4 +1,3 @@
 pub mod Streams
 pub mod Fields
-pub mod Headers
 pub mod Lines

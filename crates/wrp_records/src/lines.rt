@@ -1,19 +1,18 @@
-// Writing records as lines of text.
+// Writing records as lines of text. After want of memory a part of what is written may stand.
 
-ghost use Rattle.std.specs.Prelude.{◌≡◌, ◌++◌, ◌∷◌, [], map, OnOk};
+ghost use Rattle.std.specs.Prelude.{◌≡◌, ◌++◌, ◌∷◌, [], OnOk};
 ghost use Rattle.std.specs.List.{list_any};
-ghost use Rattle.wrp_records.specs.Lines.{after_commas, doubled, field_text, is_mark, line_text};
+ghost use Rattle.wrp_records.specs.Lines.{after_commas, doubled, field_text, is_mark, line_text, texts_of};
 
 use std::alloc::AllocError;
 
-// Whether a field holds a comma or a double quote.
 fn needs_quotes(field: &[u8]) -> bool
     ensures { result ≡ list_any is_mark field.now }
 {
     field.iter().any(|byte| *byte == b',' || *byte == b'"')
 }
 
-// Writes a field with each double quote doubled. After want of memory a part of it may stand.
+// Writes a field with each double quote doubled.
 fn push_doubled(out: &mut Vec<u8>, field: &[u8]) -> Result<(), AllocError>
     ensures { OnOk result (out.new.items ≡ out.old.items ++ doubled field.now) }
 {
@@ -26,8 +25,7 @@ fn push_doubled(out: &mut Vec<u8>, field: &[u8]) -> Result<(), AllocError>
     Ok(())
 }
 
-// Writes a field, in double quotes where it holds a comma or a double quote. After want of memory
-// a part of it may stand.
+// Writes a field, in double quotes where it holds a comma or a double quote.
 #[tactic(auto, unfolding(crate::specs::Lines::field_text))]
 fn push_field(out: &mut Vec<u8>, field: &[u8]) -> Result<(), AllocError>
     ensures { OnOk result (out.new.items ≡ out.old.items ++ field_text field.now) }
@@ -42,9 +40,9 @@ fn push_field(out: &mut Vec<u8>, field: &[u8]) -> Result<(), AllocError>
     Ok(())
 }
 
-// Writes fields, each after a comma. After want of memory a part of them may stand.
+// Writes fields, each after a comma.
 fn push_after_commas(out: &mut Vec<u8>, fields: &[&[u8]]) -> Result<(), AllocError>
-    ensures { OnOk result (out.new.items ≡ out.old.items ++ after_commas (map (λ field. field.now) fields.now)) }
+    ensures { OnOk result (out.new.items ≡ out.old.items ++ after_commas (texts_of fields.now)) }
 {
     for field in fields {
         out.push(b',')?;
@@ -57,7 +55,7 @@ fn push_after_commas(out: &mut Vec<u8>, fields: &[&[u8]]) -> Result<(), AllocErr
 /// where it holds a comma or a double quote, and LF. After want of memory a part of it may stand.
 #[tactic(auto, unfolding(crate::specs::Lines::line_text))]
 pub fn push_line(out: &mut Vec<u8>, fields: &[&[u8]]) -> Result<(), AllocError>
-    ensures { OnOk result (out.new.items ≡ out.old.items ++ line_text (map (λ field. field.now) fields.now)) }
+    ensures { OnOk result (out.new.items ≡ out.old.items ++ line_text (texts_of fields.now)) }
 {
     if let Some((first, others)) = fields.split_first() {
         push_field(out, first)?;

@@ -42,7 +42,8 @@ impl<'a> Records<'a> {
     /// Puts the next record into `line`, and says whether there was one. Out of memory ends the
     /// records.
     pub fn next(&mut self, line: &mut ByteRecord) -> Result<bool, AllocError>
-        ensures found { IfOk result (λ found. self.old ≡ (if found then fields_of line.new ∷ self.new else [])) }
+        ensures found { IfOk result (λ found.
+            self.old ≡ (if found then fields_of line.new ∷ self.new else [])) }
         ensures end { IfOk result (λ found. found ≡ false → self.new ≡ []) }
         ensures err { OnErr result (self.new ≡ []) }
     {

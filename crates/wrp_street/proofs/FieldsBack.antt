@@ -1,7 +1,7 @@
 -- The fields of a street that was written are read back.
 use Rattle.std.proofs.Common.{◌≡◌, ℕ, zero, suc, ◌-◌, ◌<◌, ◌≤◌, ◌^◌, ◌==◌, Bool, true, false, ◌&&◌, List, [], ◌∷◌, length, get_or, Option, Some, None, nat_le, nat_lt, ap, refl, ◌∙◌, arith}
 use Rattle.std.specs.Prelude.{Ok, not}
-use Rattle.std.proofs.lemmas.Bool.{and_parts, leb-true}
+use Rattle.std.proofs.lemmas.Bool.{and_parts, leb-true, not-true}
 use Rattle.std.proofs.lemmas.Bool.Decides.{nat_tests}
 use Rattle.std.proofs.lemmas.Fmt.{digits_decimal}
 use Rattle.std.proofs.lemmas.List.Folds.{list_all_at}
@@ -12,29 +12,24 @@ use Rattle.std.specs.Str.{is_utf8}
 use Rattle.std.specs.Str.Parse.{AllDigits}
 use Rattle.wrp_records.specs.Fields.{is_blank, trim_start, trim_end, trimmed}
 use Rattle.wrp_records.specs.Lines.{is_printed, is_line}
-use Rattle.wrp_records.proofs.Costs.{cost_of-dash, cost_of-decimal}
+use Rattle.wrp_street.proofs.Costs.{cost_of-dash, cost_of-decimal}
 use Rattle.wrp_town.specs.declared.street.Need.{Need}
 use Rattle.wrp_town.specs.declared.street.Need.TheVariants.{No, Either, Forward, Backward, Both}
 use Rattle.wrp_town.specs.declared.street.Street.{Street}
-use Rattle.wrp_town.specs.Names.{is_plain, is_short_and_plain, has_bare_ends, is_name}
+use Rattle.wrp_town.specs.Limits.{cost_limit}
+use Rattle.wrp_town.specs.Names.{name_limit, is_plain, is_short_and_plain, has_bare_ends, is_name}
 use Rattle.wrp_town.specs.Streets.{is_cost}
+use Rattle.wrp_town.proofs.Lists.{list_all-at}
 use Rattle.wrp_town.proofs.TownLaws.{IsSound}
 use Rattle.wrp_street.specs.declared.row.Row.{Row}
 use Rattle.wrp_street.specs.Rows.{name_in, cost_in, need_in, six_of, row_of}
 use Rattle.wrp_street.specs.Canonical.{text_of_cost, text_of_need, name_at, fields_of_street}
-use Rattle.wrp_street.proofs.TownSteps.{not_true}
-
--- what holds of all items holds of each
-pub all_at : {X : Type 0} (p : X → Bool) (xs : List X) (i : ℕ) (d : X) → list_all p xs ≡ true → i < length xs → p (get_or xs i d) ≡ true
-all_at p [] i d all below = absurd (omega arith)
-all_at p (x ∷ xs) zero d all below = (and_parts (p x) (list_all p xs) all).0
-all_at p (x ∷ xs) (suc i) d all below = all_at p xs i d (and_parts (p x) (list_all p xs) all).1 (omega arith)
 
 -- ---- names
 
 pub record IsSpelled (name : List ℕ) : Type 0 where
   pub some : nat_lt 0 (length name) ≡ true
-  pub few : length name ≤ 64
+  pub few : length name ≤ name_limit
   pub plain : list_all is_plain name ≡ true
   pub first : (get_or name 0 0 == 32) ≡ false
   pub last : (get_or name (length name - 1) 0 == 32) ≡ false
@@ -42,16 +37,16 @@ pub record IsSpelled (name : List ℕ) : Type 0 where
 pub spelled : (name : List ℕ) → is_name name ≡ true → IsSpelled name
 spelled name is =
     let whole = and_parts (is_short_and_plain name) (has_bare_ends name && is_utf8 name) is in
-    let some = and_parts (nat_lt 0 (length name)) (nat_le (length name) 64 && list_all is_plain name) whole.0 in
-    let few = and_parts (nat_le (length name) 64) (list_all is_plain name) some.1 in
+    let some = and_parts (nat_lt 0 (length name)) (nat_le (length name) name_limit && list_all is_plain name) whole.0 in
+    let few = and_parts (nat_le (length name) name_limit) (list_all is_plain name) some.1 in
     let bare = and_parts (has_bare_ends name) (is_utf8 name) whole.1 in
     let ends = and_parts (not (get_or name 0 0 == 32)) (not (get_or name (length name - 1) 0 == 32)) bare.0 in
     record {
       some = some.0;
-      few = leb-true (length name) 64 few.0;
+      few = leb-true (length name) name_limit few.0;
       plain = few.1;
-      first = not_true _ ends.0;
-      last = not_true _ ends.1;
+      first = not-true _ ends.0;
+      last = not-true _ ends.1;
     }
 
 plain_not_blank : (byte : ℕ) → is_plain byte ≡ true → (byte == 32) ≡ false → is_blank byte ≡ false
@@ -75,7 +70,7 @@ end_kept (byte ∷ next ∷ bytes) last =
 last_bare : (name : List ℕ) (n : ℕ) → list_all is_plain name ≡ true → (get_or name (length name - 1) 0 == 32) ≡ false → length name ≡ suc n → is_blank (get_or name n 0) ≡ false
 last_bare name n plain last size =
     let same : length name - 1 ≡ n = omega arith in
-    plain_not_blank (get_or name n 0) (all_at is_plain name n 0 plain (omega arith)) (rw same at last)
+    plain_not_blank (get_or name n 0) (list_all-at is_plain name n 0 plain (omega arith)) (rw same at last)
 
 -- a name has no blanks to trim
 pub trimmed-name : (name : List ℕ) → is_name name ≡ true → trimmed name ≡ name
@@ -105,7 +100,7 @@ digits_printed [] digits = refl
 digits_printed (byte ∷ bytes) digits = rw (digit_printed byte (digit_from_value byte digits.0).0, digits_printed bytes digits.1) refl
 
 small_cost : (cost : ℕ) → is_cost (Some cost) ≡ true → cost < 2 ^ 64
-small_cost cost is = omega (arith, leb-true cost 1000000000 is)
+small_cost cost is = omega (arith, leb-true cost cost_limit is)
 
 pub printed-cost : (cost : Option ℕ) → is_cost cost ≡ true → is_printed (text_of_cost cost) ≡ true
 printed-cost None is = refl
@@ -113,7 +108,7 @@ printed-cost (Some cost) is = digits_printed (decimal cost) (digits_decimal (num
 
 pub cost_back : (row field : ℕ) (cost : Option ℕ) → is_cost cost ≡ true → cost_in row field (text_of_cost cost) ≡ Ok cost
 cost_back row field None is = rw cost_of-dash refl
-cost_back row field (Some cost) is = rw (cost_of-decimal cost (leb-true cost 1000000000 is)) refl
+cost_back row field (Some cost) is = rw (cost_of-decimal cost (leb-true cost cost_limit is)) refl
 
 -- ---- needs
 
@@ -151,8 +146,8 @@ unfolding row_of six_of
 row_back row junctions street named sound =
     rw (
       name_back row 1 street.name sound.named,
-      name_back row 2 (name_at junctions street.from) (all_at is_name junctions street.from [] named sound.from),
-      name_back row 3 (name_at junctions street.to) (all_at is_name junctions street.to [] named sound.to),
+      name_back row 2 (name_at junctions street.from) (list_all-at is_name junctions street.from [] named sound.from),
+      name_back row 3 (name_at junctions street.to) (list_all-at is_name junctions street.to [] named sound.to),
       cost_back row 4 street.forward sound.forward,
       cost_back row 5 street.backward sound.backward,
       need_back row street.need,
@@ -167,8 +162,8 @@ pub line_of_street : (junctions : List (List ℕ)) (street : Street) → list_al
 line_of_street junctions street named sound =
     six_printed street.name (name_at junctions street.from) (name_at junctions street.to) (text_of_cost street.forward) (text_of_cost street.backward) (text_of_need street.need)
     (printed-name street.name sound.named)
-    (printed-name (name_at junctions street.from) (all_at is_name junctions street.from [] named sound.from))
-    (printed-name (name_at junctions street.to) (all_at is_name junctions street.to [] named sound.to))
+    (printed-name (name_at junctions street.from) (list_all-at is_name junctions street.from [] named sound.from))
+    (printed-name (name_at junctions street.to) (list_all-at is_name junctions street.to [] named sound.to))
     (printed-cost street.forward sound.forward)
     (printed-cost street.backward sound.backward)
     (printed-need street.need)

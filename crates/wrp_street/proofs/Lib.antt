@@ -1,3 +1,6 @@
+mod SixFields
+mod DigitSteps
+pub mod Costs
 pub mod Stops
 pub mod Places
 pub mod RowSteps

@@ -1,6 +1,6 @@
 -- The place of a name among names, as names are added.
 use Rattle.std.proofs.Common.{◌≡◌, ℕ, suc, ◌+◌, ◌<◌, ◌≤◌, Bool, true, false, cond, not, ◌||◌, List, [], ◌∷◌, ◌++◌, length, ap, refl, sym, ◌∙◌, arith, length-append}
-use Rattle.std.proofs.lemmas.Bool.{false≢true}
+use Rattle.std.proofs.lemmas.Bool.{false≢true, or_right}
 use Rattle.std.specs.Prelude.{max, if◌then◌else◌}
 use Rattle.std.specs.List.{list_any, position_or_len}
 use Rattle.std.specs.Str.{bytes_eq}
@@ -52,13 +52,9 @@ pub record IsPlaced (name : List ℕ) (names more : List (List ℕ)) : Type 0 wh
   pub at_most : number_of names name ≤ length names
   pub grows : max (length names) (number_of names name + 1) ≡ length more
 
-pub or_true : (a b : Bool) → b ≡ true → (a || b) ≡ true
-or_true true b is = refl
-or_true false b is = is
-
 any_last : {X : Type 0} (p : X → Bool) (xs : List X) (y : X) → p y ≡ true → list_any p (xs ++ y ∷ []) ≡ true
 any_last p [] y here = rw here refl
-any_last p (x ∷ xs) y here = or_true (p x) (list_any p (xs ++ y ∷ [])) (any_last p xs y here)
+any_last p (x ∷ xs) y here = or_right (p x) (list_any p (xs ++ y ∷ [])) (any_last p xs y here)
 
 placed_if : (b : Bool) (name : List ℕ) (names : List (List ℕ)) → list_any (bytes_eq name) names ≡ b → IsPlaced name names (if b then names else names ++ name ∷ [])
 placed_if true name names is =

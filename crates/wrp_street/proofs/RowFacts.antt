@@ -3,11 +3,13 @@ use Rattle.std.proofs.Common.{◌≡◌, ℕ, ◌==◌, Bool, true, false, cond,
 use Rattle.std.specs.Prelude.{Result, Ok, Err, nat_le}
 use Rattle.std.proofs.lemmas.Bool.{and_parts}
 use Rattle.std.specs.Str.Parse.{digits_value}
-use Rattle.wrp_records.specs.Fields.{trimmed, cost_of, is_cost_number}
+use Rattle.wrp_records.specs.Fields.{trimmed}
+use Rattle.wrp_town.specs.Limits.{cost_limit}
 use Rattle.wrp_town.specs.Names.{is_name}
 use Rattle.wrp_town.specs.Streets.{is_cost}
 use Rattle.wrp_street.specs.declared.row.Row.{Row}
 use Rattle.wrp_street.specs.declared.table.TableFault.{TableFault}
+use Rattle.wrp_street.specs.Costs.{cost_of, is_cost_number}
 use Rattle.wrp_street.specs.Faults.{◌>>=◌}
 use Rattle.wrp_street.specs.Rows.{name_in, cost_in, need_in, found_or, field_at, six_of, row_of}
 
@@ -31,7 +33,7 @@ name_in-is_name row field text name is =
     let same : trimmed text ≡ name = cc (chosen.1) in
     subst (λ n. is_name n ≡ true) same chosen.0
 
-cost_by_tests : (empty dash number : Bool) (n : ℕ) (cost : Option ℕ) → (number ≡ true → nat_le n 1000000000 ≡ true)
+cost_by_tests : (empty dash number : Bool) (n : ℕ) (cost : Option ℕ) → (number ≡ true → nat_le n cost_limit ≡ true)
     → cond empty (Some None) (cond dash (Some None) (cond number (Some (Some n)) None)) ≡ Some cost → is_cost cost ≡ true
 cost_by_tests true dash number n cost small is = let same : None ≡ cost = cc in subst (λ c. is_cost c ≡ true) same refl
 cost_by_tests false true number n cost small is = let same : None ≡ cost = cc in subst (λ c. is_cost c ≡ true) same refl

@@ -5,6 +5,7 @@ use Rattle.std.proofs.lemmas.Bool.{ltb-false}
 use Rattle.wrp_town.specs.declared.street.Need.{Need}
 use Rattle.wrp_town.specs.declared.street.Need.TheVariants.{No, Either, Forward, Backward, Both}
 use Rattle.wrp_town.specs.declared.street.Street.{Street}
+use Rattle.wrp_town.specs.Limits.{street_limit, junction_limit, demand_limit}
 use Rattle.wrp_town.specs.Streets.{demands_at, demands_from}
 use Rattle.wrp_street.specs.declared.row.Row.{Row}
 use Rattle.wrp_street.specs.declared.reader.TableReader.{TableReader}
@@ -54,9 +55,9 @@ length-demands_from-push s (first ∷ streets) street =
 -- ---- the limits
 
 pub record IsWithin (table next : Table) : Type 0 where
-  pub few_streets : length table.streets ≤ 4000
-  pub few_junctions : length table.junctions ≤ 2000
-  pub few_demands : length (demands_from 0 table.streets) ≤ 4000
+  pub few_streets : length table.streets ≤ street_limit
+  pub few_junctions : length table.junctions ≤ junction_limit
+  pub few_demands : length (demands_from 0 table.streets) ≤ demand_limit
   pub same : table ≡ next
 
 all_false : {A E : Type 0} (a b c : Bool) (x y z : E) (t next : A) → cond a (Err x) (cond b (Err y) (cond c (Err z) (Ok t))) ≡ Ok next → (a ≡ false) × (b ≡ false) × (c ≡ false) × (t ≡ next)

@@ -3,8 +3,9 @@ use Rattle.std.proofs.Common.{◌≡◌, ℕ, ◌+◌, Bool, true, false, List, 
 use Rattle.std.specs.Prelude.{Ok, if◌then◌else◌}
 use Rattle.std.specs.List.{list_any}
 use Rattle.std.specs.Str.{bytes_eq}
+use Rattle.std.proofs.lemmas.List.{append-nil}
 use Rattle.std.proofs.lemmas.List.Folds.{list_any-append}
-use Rattle.wrp_records.specs.Headers.{is_header}
+use Rattle.wrp_street.specs.Headers.{is_header}
 use Rattle.wrp_records.specs.Streams.{records_of}
 use Rattle.wrp_town.specs.declared.street.Street.{Street}
 use Rattle.wrp_town.specs.Streets.{IsTown}
@@ -101,11 +102,7 @@ grown_by : (table last : Table) (records : List (List (List ℕ))) → with_reco
 unfolding with_records
 grown_by table last [] is =
     let same : table ≡ last = cc in
-    subst (λ (t : Table). IsGrown table t []) same (record { more = []; streets = sym (no_more table.streets); rows = tt })
-  where
-    no_more : (streets : List Street) → streets ++ [] ≡ streets
-    no_more [] = refl
-    no_more (street ∷ streets) = ap (λ ss. street ∷ ss) (no_more streets)
+    subst (λ (t : Table). IsGrown table t []) same (record { more = []; streets = sym (append-nil table.streets); rows = tt })
 grown_by table last (fields ∷ records) is =
     let read = bind_ok (with_record table fields) (λ next. with_records next records) last is in
     grown_first table read.0 last fields records (added table read.0 fields read.1) read.2 (grown_by read.0 last records read.2)

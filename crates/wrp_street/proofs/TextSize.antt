@@ -3,17 +3,19 @@ use Rattle.std.proofs.Common.{◌≡◌, ℕ, ◌+◌, ◌*◌, ◌≤◌, ◌^�
 use Rattle.std.proofs.lemmas.Bool.{and_parts, leb-true}
 use Rattle.std.proofs.lemmas.Fmt.{length-decimal-le}
 use Rattle.std.specs.List.{list_all, list_any}
-use Rattle.wrp_records.specs.Headers.{columns}
+use Rattle.wrp_street.specs.Headers.{columns}
 use Rattle.wrp_records.specs.Lines.{after_commas, doubled, field_text, is_mark, line_text, lines_text}
 use Rattle.wrp_town.specs.declared.street.Need.{Need}
 use Rattle.wrp_town.specs.declared.street.Need.TheVariants.{No, Either, Forward, Backward, Both}
 use Rattle.wrp_town.specs.declared.street.Street.{Street}
 use Rattle.wrp_town.specs.declared.town.Town.{Town}
-use Rattle.wrp_town.specs.Names.{is_name}
+use Rattle.wrp_town.specs.Limits.{cost_limit}
+use Rattle.wrp_town.specs.Names.{name_limit, is_name}
 use Rattle.wrp_town.specs.Streets.{is_cost, is_street}
 use Rattle.wrp_town.proofs.TownLaws.{IsSound, IsSound-from_is_street}
-use Rattle.wrp_street.specs.Canonical.{text_of_cost, text_of_need, name_at, fields_of_street, records_in, canonical_of}
-use Rattle.wrp_street.proofs.FieldsBack.{all_at, spelled}
+use Rattle.wrp_street.specs.Canonical.{text_of_cost, text_of_need, name_at, fields_of_street, records_in, canonical_of, size_limit}
+use Rattle.wrp_town.proofs.Lists.{list_all-at}
+use Rattle.wrp_street.proofs.FieldsBack.{spelled}
 
 doubled_if : (b : Bool) (byte n : ℕ) (rest : List ℕ) → length rest ≤ n → length (cond b (34 ∷ byte ∷ rest) (byte ∷ rest)) ≤ n + 2
 doubled_if true byte n rest small = omega arith
@@ -59,7 +61,7 @@ length-six a b c d e f =
 length-cost : (cost : Option ℕ) → is_cost cost ≡ true → length (text_of_cost cost) ≤ 10
 length-cost None is = omega arith
 length-cost (Some cost) is =
-    let small = leb-true cost 1000000000 is in
+    let small = leb-true cost cost_limit is in
     length-decimal-le 10 cost (lit< tt) (omega arith) (omega arith)
 
 length-need : (need : Need) → length (text_of_need need) ≤ 8
@@ -69,7 +71,7 @@ length-need Forward = omega arith
 length-need Backward = omega arith
 length-need Both = omega arith
 
-length-name : (name : List ℕ) → is_name name ≡ true → length name ≤ 64
+length-name : (name : List ℕ) → is_name name ≡ true → length name ≤ name_limit
 length-name name is = (spelled name is).few
 
 -- a street is written in at most 458 bytes
@@ -80,8 +82,8 @@ length-street junctions street named sound =
       arith,
       length-six street.name (name_at junctions street.from) (name_at junctions street.to) (text_of_cost street.forward) (text_of_cost street.backward) (text_of_need street.need),
       length-name street.name sound.named,
-      length-name (name_at junctions street.from) (all_at is_name junctions street.from [] named sound.from),
-      length-name (name_at junctions street.to) (all_at is_name junctions street.to [] named sound.to),
+      length-name (name_at junctions street.from) (list_all-at is_name junctions street.from [] named sound.from),
+      length-name (name_at junctions street.to) (list_all-at is_name junctions street.to [] named sound.to),
       length-cost street.forward sound.forward,
       length-cost street.backward sound.backward,
       length-need street.need,
@@ -104,8 +106,7 @@ length-header : (records : List (List (List ℕ))) → length (lines_text (colum
 unfolding lines_text line_text after_commas field_text
 length-header records = omega arith
 
--- the table of a town has at most 2 ^ 22 bytes
-pub length-canonical_of : (town : Town) → length (canonical_of town) ≤ 2 ^ 22
+pub length-canonical_of : (town : Town) → length (canonical_of town) ≤ size_limit
 unfolding canonical_of
 length-canonical_of town =
     let is = town.well_formed in

@@ -1,14 +1,14 @@
 -- A table is written street by street.
 use Rattle.std.proofs.Common.{◌≡◌, ℕ, suc, ◌+◌, ◌<◌, ◌≤◌, true, List, [], ◌∷◌, ◌++◌, length, get_or, drop, map, ap, refl, sym, ◌∙◌, subst, append_assoc, add-one, drop-cons, drop_of_length-le}
 use Rattle.std.proofs.lemmas.List.{append-nil}
-use Rattle.wrp_records.specs.Headers.{columns}
+use Rattle.wrp_street.specs.Headers.{columns}
 use Rattle.wrp_records.specs.Lines.{line_text, lines_text}
 use Rattle.wrp_town.specs.declared.street.Street.{Street}
 use Rattle.wrp_town.specs.declared.town.Town.{Town}
 use Rattle.wrp_town.specs.Streets.{is_street}
 use Rattle.wrp_town.proofs.TownLaws.{IsSound, IsSound-from_is_street}
 use Rattle.wrp_street.specs.Canonical.{fields_of_street, canonical_of}
-use Rattle.wrp_street.proofs.FieldsBack.{all_at}
+use Rattle.wrp_town.proofs.Lists.{list_all-at}
 
 -- the street of this number, as a loop over the items reads it
 pub record IsItem (town : Town) (items : List Street) (i : ℕ) (street : Street) : Type 0 where
@@ -27,7 +27,7 @@ pub sound_item : (town : Town) (items : List Street) (i : ℕ) (street : Street)
 sound_item town items i street item =
     let n = length town.junctions in
     IsSound-from_is_street n street
-    (subst (λ (x : Street). is_street n x ≡ true) (sym (item_at town items i street item)) (all_at (is_street n) town.streets i street town.well_formed.sound (item_below town items i street item)))
+    (subst (λ (x : Street). is_street n x ≡ true) (sym (item_at town items i street item)) (list_all-at (is_street n) town.streets i street town.well_formed.sound (item_below town items i street item)))
 
 -- the lines of the streets from this number on
 abbrev pub lines_from : Town → ℕ → List ℕ

@@ -4,37 +4,38 @@ use Rattle.std.specs.Prelude.{max, Ok}
 use Rattle.std.specs.List.{list_all, list_any}
 use Rattle.std.specs.Str.{bytes_eq}
 use Rattle.std.specs.Cmp.Lexicographic.{nat_list_eq_equiv}
-use Rattle.std.proofs.lemmas.Bool.{and_parts, eqb-true, leb-true, ltb-true, ltb-false, le-ltb}
+use Rattle.std.proofs.lemmas.Bool.{and_parts, eqb-true, leb-true, ltb-true, ltb-false, le-ltb, not-true, or_parts, or_right}
 use Rattle.std.proofs.lemmas.List.{append-nil, length-take-le}
 use Rattle.std.proofs.Math.Seq.{take-suc, take-length}
 use Rattle.wrp_records.specs.Fields.{trim_start, trim_end}
-use Rattle.wrp_records.specs.Headers.{columns, is_header}
-use Rattle.wrp_records.specs.Lines.{is_line}
+use Rattle.wrp_street.specs.Headers.{columns, is_header}
+use Rattle.csv.specs.Reading.{strip_bom}
+use Rattle.wrp_records.specs.Lines.{field_text, is_line, line_text, lines_text}
 use Rattle.wrp_records.proofs.ReadBack.{records_of-lines}
 use Rattle.wrp_town.specs.declared.street.Street.{Street}
 use Rattle.wrp_town.specs.declared.town.Town.{Town}
+use Rattle.wrp_town.specs.Limits.{street_limit, junction_limit, demand_limit}
 use Rattle.wrp_town.specs.Names.{is_name}
 use Rattle.wrp_town.specs.Streets.{are_different, come_in_order, demands_at, demands_from, ends_of, is_street}
 use Rattle.wrp_town.proofs.TownLaws.{IsSound, IsSound-from_is_street}
 use Rattle.wrp_street.specs.Faults.{◌>>=◌}
 use Rattle.wrp_street.specs.Tables.{Table, no_rows, with_junction, with_row, number_of, next_row, within_limits, with_record, with_records, under_header, IsTable}
 use Rattle.wrp_street.specs.Canonical.{name_at, fields_of_street, records_in, canonical_of}
-use Rattle.wrp_street.proofs.Places.{equal_itself, or_true}
-use Rattle.wrp_street.proofs.TownSteps.{not_true, or_false}
+use Rattle.wrp_street.proofs.Places.{equal_itself}
 use Rattle.wrp_street.proofs.FieldsBack.{row_at, row_back, line_of_street}
 
 -- ---- the place of a junction's name among the first of them
 
 none_at : {X : Type 0} (p : X → Bool) (xs : List X) (i : ℕ) (d : X) → list_any p xs ≡ false → i < length xs → p (get_or xs i d) ≡ false
 none_at p [] i d none below = absurd (omega arith)
-none_at p (x ∷ xs) zero d none below = (or_false (p x) (list_any p xs) none).0
-none_at p (x ∷ xs) (suc i) d none below = none_at p xs i d (or_false (p x) (list_any p xs) none).1 (omega arith)
+none_at p (x ∷ xs) zero d none below = (or_parts (p x) (list_any p xs) none).0
+none_at p (x ∷ xs) (suc i) d none below = none_at p xs i d (or_parts (p x) (list_any p xs) none).1 (omega arith)
 
 -- a later name is not the first
 later : (name : List ℕ) (names : List (List ℕ)) (i : ℕ) → are_different (name ∷ names) ≡ true → i < length names → bytes_eq (name_at names i) name ≡ false
 later name names i different below =
     let parts = and_parts (not (list_any (bytes_eq name) names)) (are_different names) different in
-    nat_list_eq_equiv.symm (name_at names i) name ∙ none_at (bytes_eq name) names i [] (not_true _ parts.0) below
+    nat_list_eq_equiv.symm (name_at names i) name ∙ none_at (bytes_eq name) names i [] (not-true _ parts.0) below
 
 different_rest : (name : List ℕ) (names : List (List ℕ)) → are_different (name ∷ names) ≡ true → are_different names ≡ true
 different_rest name names different = (and_parts (not (list_any (bytes_eq name) names)) (are_different names) different).1
@@ -43,7 +44,7 @@ any_before : (names : List (List ℕ)) (i m : ℕ) → i < m → i < length name
 any_before [] i m before below = absurd (omega arith)
 any_before (name ∷ names) i zero before below = absurd (omega arith)
 any_before (name ∷ names) zero (suc m) before below = rw (equal_itself name) refl
-any_before (name ∷ names) (suc i) (suc m) before below = or_true _ _ (any_before names i m (omega arith) (omega arith))
+any_before (name ∷ names) (suc i) (suc m) before below = or_right _ _ (any_before names i m (omega arith) (omega arith))
 
 none_before : (names : List (List ℕ)) (i : ℕ) → are_different names ≡ true → i < length names → list_any (bytes_eq (name_at names i)) (take i names) ≡ false
 none_before [] i different below = absurd (omega arith)
@@ -100,10 +101,10 @@ row_seen names seen streets street different first second from to =
       number_before names street.to after different (omega arith) to,
     ) refl
 
-limits_kept : (row : ℕ) (table : Table) → length table.streets ≤ 4000 → length table.junctions ≤ 2000 → length (demands_from 0 table.streets) ≤ 4000 → within_limits row table ≡ Ok table
+limits_kept : (row : ℕ) (table : Table) → length table.streets ≤ street_limit → length table.junctions ≤ junction_limit → length (demands_from 0 table.streets) ≤ demand_limit → within_limits row table ≡ Ok table
 unfolding within_limits
 limits_kept row table streets junctions demands =
-    rw (le-ltb 4000 (length table.streets) streets, le-ltb 2000 (length table.junctions) junctions, le-ltb 4000 (length (demands_from 0 table.streets)) demands) refl
+    rw (le-ltb street_limit (length table.streets) streets, le-ltb junction_limit (length table.junctions) junctions, le-ltb demand_limit (length (demands_from 0 table.streets)) demands) refl
 
 demands_at_most : (s : ℕ) (streets more : List Street) → length (demands_from s streets) ≤ length (demands_from s (streets ++ more))
 demands_at_most s [] more = omega arith
@@ -116,14 +117,14 @@ demands_at_most s (street ∷ streets) more =
 pub record AreJunctions (names : List (List ℕ)) : Type 0 where
   pub named : list_all is_name names ≡ true
   pub different : are_different names ≡ true
-  pub few : length names ≤ 2000
+  pub few : length names ≤ junction_limit
 
 -- the streets that are left, after those that were read, make a town of these junctions
 pub record IsRest (names : List (List ℕ)) (seen : ℕ) (streets rest : List Street) : Type 0 where
   pub order : come_in_order (length names) seen (ends_of rest) ≡ true
   pub sound : list_all (is_street (length names)) rest ≡ true
-  pub few_streets : length (streets ++ rest) ≤ 4000
-  pub few_demands : length (demands_from 0 (streets ++ rest)) ≤ 4000
+  pub few_streets : length (streets ++ rest) ≤ street_limit
+  pub few_demands : length (demands_from 0 (streets ++ rest)) ≤ demand_limit
   pub within : seen ≤ length names
 
 -- the next of the streets that are left
@@ -191,6 +192,15 @@ lines_of_streets names (street ∷ streets) named sound =
     let parts = and_parts (is_street (length names) street) (list_all (is_street (length names)) streets) sound in
     rw (line_of_street names street named (IsSound-from_is_street (length names) street parts.0), lines_of_streets names streets named parts.1) refl
 
+-- a table that begins with the header has no mark to drop
+strip_bom-header : (records : List (List (List ℕ))) → strip_bom (lines_text (columns ∷ records)) ≡ lines_text (columns ∷ records)
+unfolding strip_bom lines_text line_text field_text
+strip_bom-header records = refl
+
+is_line-columns : is_line columns ≡ true
+unfolding is_line
+is_line-columns = refl
+
 header_back : (records : List (List (List ℕ))) → under_header (columns ∷ records) ≡ with_records no_rows records
 unfolding under_header is_header trim_start trim_end
 header_back records = refl
@@ -200,7 +210,8 @@ pub town_back : (town : Town) → IsTable (canonical_of town) town
 unfolding canonical_of
 town_back town =
     let is = town.well_formed in
-    ap under_header (records_of-lines (records_in town) (lines_of_streets town.junctions town.streets is.named is.sound))
+    let lines = lines_of_streets town.junctions town.streets is.named is.sound in
+    ap under_header (records_of-lines (columns ∷ records_in town) (rw is_line-columns lines) (strip_bom-header (records_in town)))
     ∙ header_back (records_in town)
     ∙ streets_back town.junctions 0 [] town.streets
     (record { named = is.named; different = is.different; few = is.few_junctions })

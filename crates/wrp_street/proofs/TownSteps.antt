@@ -4,7 +4,7 @@ use Rattle.std.specs.Prelude.{max, nat_le, nat_lt, if◌then◌else◌, Ok}
 use Rattle.std.specs.List.{list_all, list_any}
 use Rattle.std.specs.Str.{bytes_eq}
 use Rattle.std.specs.Cmp.Lexicographic.{nat_list_eq_equiv}
-use Rattle.std.proofs.lemmas.Bool.{and_parts, eqb-true, eq-eqb, ltb-true, lt-ltb, false≢true}
+use Rattle.std.proofs.lemmas.Bool.{and_parts, eqb-true, eq-eqb, le-leb, lt-ltb, ltb-true, not-true, or_parts}
 use Rattle.std.proofs.lemmas.Bool.Decides.{nat_tests}
 use Rattle.std.proofs.lemmas.List.Folds.{list_all-append, list_any-append}
 use Rattle.wrp_town.specs.declared.street.Street.{Street}
@@ -29,20 +29,12 @@ named_if false name names is before = all_last is_name names name before is
 named_with : (name : List ℕ) (names : List (List ℕ)) → is_name name ≡ true → list_all is_name names ≡ true → list_all is_name (with_junction names name) ≡ true
 named_with name names is before = named_if (list_any (bytes_eq name) names) name names is before
 
-pub not_true : (b : Bool) → not b ≡ true → b ≡ false
-not_true true is = absurd (false≢true is)
-not_true false is = refl
-
-pub or_false : (a b : Bool) → (a || b) ≡ false → (a ≡ false) × (b ≡ false)
-or_false true b is = absurd (false≢true (sym is))
-or_false false b is = (refl, is)
-
 different_last : (names : List (List ℕ)) (name : List ℕ) → list_any (bytes_eq name) names ≡ false → are_different names ≡ true → are_different (names ++ name ∷ []) ≡ true
 different_last [] name new before = refl
 different_last (first ∷ names) name new before =
     let parts = and_parts (not (list_any (bytes_eq first) names)) (are_different names) before in
-    let away = not_true (list_any (bytes_eq first) names) parts.0 in
-    let news = or_false (bytes_eq name first) (list_any (bytes_eq name) names) new in
+    let away = not-true (list_any (bytes_eq first) names) parts.0 in
+    let news = or_parts (bytes_eq name first) (list_any (bytes_eq name) names) new in
     let other : bytes_eq first name ≡ false = nat_list_eq_equiv.symm first name ∙ news.0 in
     rw (list_any-append (bytes_eq first) names (name ∷ []), away, other) (different_last names name news.1 parts.1)
 
@@ -85,9 +77,6 @@ order_goes_on n k seen [] more is = ap (λ s. come_in_order k s more) (eqb-true 
 order_goes_on n k seen (j ∷ js) more is =
     let parts = and_parts (nat_le j seen) (come_in_order n (max seen (j + 1)) js) is in
     rw (parts.0) (order_goes_on n k (max seen (j + 1)) js more parts.1)
-
-le-leb : (a b : ℕ) → a ≤ b → nat_le a b ≡ true
-le-leb a b h = grind (arith, nat_tests)
 
 two_in_order : (n between after from to : ℕ) → from ≤ n → max n (from + 1) ≡ between → to ≤ between → max between (to + 1) ≡ after → come_in_order after n (from ∷ to ∷ []) ≡ true
 two_in_order n between after from to first grows second ends =

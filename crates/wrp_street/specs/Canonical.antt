@@ -1,8 +1,8 @@
 -- How a town is written as a street table.
-use Rattle.std.specs.Prelude.{ℕ, List, [], ◌∷◌, Option, None, Some, map, codes}
+use Rattle.std.specs.Prelude.{ℕ, ◌^◌, List, [], ◌∷◌, Option, None, Some, map, codes}
 use Rattle.std.specs.Fmt.{decimal}
 use Rattle.std.specs.List.{slice_index_or}
-use Rattle.wrp_records.specs.Headers.{columns}
+use Rattle.wrp_street.specs.Headers.{columns}
 use Rattle.wrp_records.specs.Lines.{lines_text}
 use Rattle.wrp_town.specs.declared.street.Need.{Need}
 use Rattle.wrp_town.specs.declared.street.Need.TheVariants.{No, Either, Forward, Backward, Both}
@@ -35,6 +35,10 @@ fields_of_street junctions street =
 -- the records of a town's streets, in order
 abbrev pub records_in : Town → List (List (List ℕ))
 records_in town = map (fields_of_street town.junctions) town.streets
+
+-- the most bytes of such a table
+abbrev pub size_limit : ℕ
+size_limit = 2 ^ 22
 
 -- the table of a town: the header, and a line for each street
 unfoldable pub canonical_of : Town → List ℕ

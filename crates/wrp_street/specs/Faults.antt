@@ -5,7 +5,8 @@ use Rattle.wrp_street.specs.declared.table.TableFault.TheVariants as faults
 
 -- go on where reading gave a value, stop at the first fault
 infixl 10 ◌>>=◌
-abbrev pub ◌>>=◌ : {A B : Type 0} → Result A TableFault → (A → Result B TableFault) → Result B TableFault
+abbrev pub ◌>>=◌ : {A B : Type 0} → Result A TableFault → (A → Result B TableFault)
+    → Result B TableFault
 (Ok x) >>= f = f x
 (Err fault) >>= f = Err fault
 

@@ -1,3 +1,5 @@
+pub mod Headers
+pub mod Costs
 pub mod Faults
 pub mod Rows
 pub mod Tables

@@ -1,14 +1,16 @@
--- One row of a street table: a street between two named junctions, or the first fault from the left.
+-- One row of a street table: a street between two named junctions, or the first fault from the
+-- left.
 use Rattle.std.specs.Prelude.{ℕ, zero, suc, if◌then◌else◌, ◌==◌, codes, List, [], length, Option, None, Some, Result, Ok, Err}
 use Rattle.std.specs.List.{slice_index_or}
 use Rattle.std.specs.Str.{bytes_eq}
-use Rattle.wrp_records.specs.Fields.{trimmed, cost_of}
+use Rattle.wrp_records.specs.Fields.{trimmed}
 use Rattle.wrp_town.specs.Names.{is_name}
 use Rattle.wrp_town.specs.declared.street.Need.{Need}
 use Rattle.wrp_town.specs.declared.street.Need.TheVariants.{No, Either, Forward, Backward, Both}
 use Rattle.wrp_street.specs.declared.table.TableFault.{TableFault}
 use Rattle.wrp_street.specs.declared.table.TableFault.TheVariants as faults
 use Rattle.wrp_street.specs.declared.row.Row.{Row}
+use Rattle.wrp_street.specs.Costs.{cost_of}
 use Rattle.wrp_street.specs.Faults.{◌>>=◌}
 
 -- the field of this number, counted from 1, or no bytes
@@ -18,7 +20,8 @@ field_at fields (suc i) = slice_index_or fields i []
 
 -- the name in a field
 abbrev pub name_in : ℕ → ℕ → List ℕ → Result (List ℕ) TableFault
-name_in row field text = if is_name (trimmed text) then Ok (trimmed text) else Err (faults.Name row field)
+name_in row field text =
+    if is_name (trimmed text) then Ok (trimmed text) else Err (faults.Name row field)
 
 -- what was found, or else a fault
 abbrev pub found_or : {A : Type 0} → TableFault → Option A → Result A TableFault
@@ -54,7 +57,14 @@ six_of row fields = do
   forward ← cost_in row 4 (field_at fields 4)
   backward ← cost_in row 5 (field_at fields 5)
   need ← need_in row (field_at fields 6)
-  Ok (record { street = street; from = from; to = to; forward = forward; backward = backward; need = need })
+  Ok (record {
+    street = street;
+    from = from;
+    to = to;
+    forward = forward;
+    backward = backward;
+    need = need;
+  })
 
 -- what a row of this number says
 unfoldable pub row_of : ℕ → List (List ℕ) → Result Row TableFault

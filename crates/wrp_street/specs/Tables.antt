@@ -3,9 +3,10 @@ use Rattle.std.specs.Prelude.{◌≡◌, ℕ, ◌+◌, if◌then◌else◌, nat_
 use Rattle.std.specs.List.{list_any, position_or_len}
 use Rattle.std.specs.Str.{bytes_eq}
 use Rattle.wrp_records.specs.Streams.{records_of}
-use Rattle.wrp_records.specs.Headers.{is_header}
+use Rattle.wrp_street.specs.Headers.{is_header}
 use Rattle.wrp_town.specs.declared.street.Street.{Street}
 use Rattle.wrp_town.specs.declared.town.Town.{Town}
+use Rattle.wrp_town.specs.Limits.{street_limit, junction_limit, demand_limit}
 use Rattle.wrp_town.specs.Streets.{demands_from}
 use Rattle.wrp_street.specs.declared.table.TableFault.{TableFault}
 use Rattle.wrp_street.specs.declared.table.TableFault.TheVariants as faults
@@ -59,24 +60,28 @@ next_row table = length table.streets + 1
 -- the table, if it is within the limits of a town: streets, then junctions, then demands
 unfoldable pub within_limits : ℕ → Table → Result Table TableFault
 within_limits row table =
-    if nat_lt 4000 (length table.streets) then Err (faults.Streets row)
-    else if nat_lt 2000 (length table.junctions) then Err (faults.Junctions row)
-    else if nat_lt 4000 (length (demands_from 0 table.streets)) then Err (faults.Demands row)
+    if nat_lt street_limit (length table.streets) then Err (faults.Streets row)
+    else if nat_lt junction_limit (length table.junctions) then Err (faults.Junctions row)
+    else if nat_lt demand_limit (length (demands_from 0 table.streets)) then Err (faults.Demands row)
     else Ok table
 
 -- the table with one more record as a row, or the first fault of that record
 abbrev pub with_record : Table → List (List ℕ) → Result Table TableFault
-with_record table fields = row_of (next_row table) fields >>= λ row. within_limits (next_row table) (with_row table row)
+with_record table fields =
+    row_of (next_row table) fields
+    >>= λ row. within_limits (next_row table) (with_row table row)
 
 -- the table with more records as rows, or the first fault
 unfoldable pub with_records : Table → List (List (List ℕ)) → Result Table TableFault
 with_records table [] = Ok table
-with_records table (fields ∷ records) = with_record table fields >>= λ next. with_records next records
+with_records table (fields ∷ records) =
+    with_record table fields >>= λ next. with_records next records
 
 -- a header and rows
 unfoldable pub under_header : List (List (List ℕ)) → Result Table TableFault
 under_header [] = Err faults.Header
-under_header (fields ∷ records) = if is_header fields then with_records no_rows records else Err faults.Header
+under_header (fields ∷ records) =
+    if is_header fields then with_records no_rows records else Err faults.Header
 
 -- the table that the bytes spell, or its first fault
 abbrev pub table_of : List ℕ → Result Table TableFault

@@ -9,6 +9,8 @@ ghost use Rattle.wrp_street.specs.Spelled.{AreRecordsOf};
 /// The table that bytes spell is a town, and behind a header each record is the row of one street,
 /// whose ends are the places of their names among all junctions.
 pub fn table_laws()
-    ensures town { (bytes : List ℕ) (table : Table) → table_of bytes ≡ Ok table → IsTown table.junctions table.streets }
-    ensures records { (bytes : List ℕ) (table : Table) → table_of bytes ≡ Ok table → AreRecordsOf table (records_of bytes) }
+    ensures town { (bytes : List ℕ) (table : Table) → table_of bytes ≡ Ok table
+        → IsTown table.junctions table.streets }
+    ensures records { (bytes : List ℕ) (table : Table) → table_of bytes ≡ Ok table
+        → AreRecordsOf table (records_of bytes) }
 {}

@@ -1,6 +1,8 @@
 //! Reads a street table into a town, and writes a town as one.
 #![tactic(auto)]
 
+mod cost;
+mod header;
 mod junctions;
 mod laws;
 mod reader;
@@ -12,7 +14,10 @@ pub use laws::table_laws;
 pub use reader::read_town;
 pub use table::TableFault;
 pub use writer::canonical;
-pub use wrp_town::{Class, List, Name, Need, Step, Street, Town, class_of};
+pub use wrp_town::{
+    Class, List, Name, Need, Step, Street, Town, class_of, demand_count, is_closed_walk, is_tour,
+    leads, serves, serves_all, small, walk_cost,
+};
 
 #[cfg(test)]
 mod tests;

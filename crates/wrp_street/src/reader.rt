@@ -2,27 +2,19 @@
 
 ghost use Rattle.std.specs.Prelude.{◌≡◌, [], length, IfOk, OnOk, OnErr, IsErrOf};
 ghost use Rattle.wrp_records.specs.Streams.{fields_of};
-ghost use Rattle.wrp_town.specs.Streets.{IsTown, demands_at, demands_from};
+ghost use Rattle.wrp_town.specs.Streets.{IsTown, demands_from};
 ghost use Rattle.wrp_street.specs.declared.table.TableFault.TheVariants.{Memory};
 ghost use Rattle.wrp_street.specs.Faults.{Gives, GivesNew, GivesAs};
 ghost use Rattle.wrp_street.specs.Tables.{no_rows, with_row, with_record, with_records, within_limits, table_in, table_of, Reads};
 ghost use Rattle.wrp_street.specs.Growing.{rows_in, IsGrowing};
 
+use crate::header::is_header;
 use crate::junctions::Junctions;
 use crate::row::{Row, read_row};
 use crate::table::TableFault;
 use std::alloc::Global;
-use wrp_records::{ByteRecord, Records, is_header};
-use wrp_town::{List, Need, Street, Town};
-
-/// The most streets of a town.
-const STREETS: usize = 4_000;
-
-/// The most junctions of a town.
-const JUNCTIONS: usize = 2_000;
-
-/// The most demands of a town.
-const DEMANDS: u32 = 4_000;
+use wrp_records::{ByteRecord, Records};
+use wrp_town::{DEMAND_LIMIT, JUNCTION_LIMIT, List, STREET_LIMIT, Street, Town};
 
 /// The rows of a table so far.
 #[derive(Drop)]
@@ -30,17 +22,6 @@ pub struct TableReader {
     junctions: Junctions,
     streets: List<Street>,
     demands: u32,
-}
-
-// How many demands a street of this need makes.
-fn demands_of(need: Need) -> u32
-    ensures { result ≡ length (demands_at 0 need) }
-{
-    match need {
-        Need::No => 0,
-        Need::Either | Need::Forward | Need::Backward => 1,
-        Need::Both => 2,
-    }
 }
 
 impl TableReader {
@@ -60,12 +41,13 @@ impl TableReader {
     fn add(&mut self, row: Row) -> Result<(), TableFault>
         requires { IsGrowing self.old }
         ensures rows { OnOk result (rows_in self.new ≡ with_row (rows_in self.old) row) }
-        ensures counted { OnOk result (self.new.demands ≡ length (demands_from 0 self.new.streets)) }
+        ensures counted { OnOk result
+            (self.new.demands ≡ length (demands_from 0 self.new.streets)) }
         ensures memory { OnErr result (IsErrOf result Memory) }
     {
         let from = self.junctions.add(row.from)?;
         let to = self.junctions.add(row.to)?;
-        self.demands += demands_of(row.need);
+        self.demands += row.need.demand_count();
         self.streets.push(Street {
             name: row.street,
             from,
@@ -83,13 +65,13 @@ impl TableReader {
         requires { self.now.demands ≡ length (demands_from 0 self.now.streets) }
         ensures { GivesNew (rows_in self.now) result (within_limits row (rows_in self.now)) }
     {
-        if self.streets.len() > STREETS {
+        if self.streets.len() > STREET_LIMIT {
             return Err(TableFault::Streets { row });
         }
-        if self.junctions.len() > JUNCTIONS {
+        if self.junctions.len() > JUNCTION_LIMIT {
             return Err(TableFault::Junctions { row });
         }
-        if self.demands > DEMANDS {
+        if self.demands > DEMAND_LIMIT {
             return Err(TableFault::Demands { row });
         }
         Ok(())
@@ -98,7 +80,8 @@ impl TableReader {
     // Adds a record as the next row.
     fn add_record(&mut self, alloc: Global, line: &ByteRecord) -> Result<(), TableFault>
         requires { IsGrowing self.old }
-        ensures rows { GivesNew (rows_in self.new) result (with_record (rows_in self.old) (fields_of line.now)) }
+        ensures rows { GivesNew (rows_in self.new) result
+            (with_record (rows_in self.old) (fields_of line.now)) }
         ensures growing { OnOk result (IsGrowing self.new) }
     {
         let number = self.streets.len() as u32 + 1;

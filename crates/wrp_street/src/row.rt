@@ -3,11 +3,12 @@
 ghost use Rattle.std.specs.Prelude.{◌≡◌};
 ghost use Rattle.wrp_records.specs.Streams.{fields_of};
 ghost use Rattle.wrp_street.specs.Faults.{Gives};
-ghost use Rattle.wrp_street.specs.Rows.{row_of, name_in, cost_in, need_of, need_in};
+ghost use Rattle.wrp_street.specs.Rows.{row_of, six_of, name_in, cost_in, need_of, need_in};
 
+use crate::cost::read_cost;
 use crate::table::TableFault;
 use std::alloc::Global;
-use wrp_records::{ByteRecord, field_count, is_text, read_cost, text_at, trim};
+use wrp_records::{ByteRecord, field_count, is_text, text_at, trim};
 use wrp_town::{Name, Need};
 
 /// What a row says, with its junctions by name.
@@ -21,7 +22,6 @@ pub struct Row {
     pub need: Need,
 }
 
-// The name in a field.
 fn read_name(alloc: Global, row: u32, field: u32, text: &[u8]) -> Result<Name, TableFault>
     ensures { Gives result (name_in row field text.now) }
 {
@@ -31,7 +31,6 @@ fn read_name(alloc: Global, row: u32, field: u32, text: &[u8]) -> Result<Name, T
     }
 }
 
-// The cost in a field.
 fn cost_or_fault(row: u32, field: u32, text: &[u8]) -> Result<Option<u32>, TableFault>
     ensures { Gives result (cost_in row field text.now) }
 {
@@ -60,7 +59,6 @@ fn read_need(text: &[u8]) -> Option<Need>
     }
 }
 
-// The need in a field.
 fn need_or_fault(row: u32, text: &[u8]) -> Result<Need, TableFault>
     ensures { Gives result (need_in row text.now) }
 {
@@ -70,14 +68,11 @@ fn need_or_fault(row: u32, text: &[u8]) -> Result<Need, TableFault>
     }
 }
 
-/// What a record says as the row of this number, or its first fault from the left.
-#[tactic(auto, using(crate::proofs::Stops::fails_on), unfolding(crate::specs::Rows::row_of, crate::specs::Rows::six_of))]
-pub fn read_row(alloc: Global, row: u32, line: &ByteRecord) -> Result<Row, TableFault>
-    ensures { Gives result (row_of row (fields_of line.now)) }
+// What six fields say as the row of this number.
+#[tactic(auto, using(crate::proofs::Stops::fails_on), unfolding(crate::specs::Rows::six_of))]
+fn read_six(alloc: Global, row: u32, line: &ByteRecord) -> Result<Row, TableFault>
+    ensures { Gives result (six_of row (fields_of line.now)) }
 {
-    if field_count(line) != 6 {
-        return Err(TableFault::Fields { row });
-    }
     let street = read_name(alloc, row, 1, text_at(line, 0))?;
     let from = read_name(alloc, row, 2, text_at(line, 1))?;
     let to = read_name(alloc, row, 3, text_at(line, 2))?;
@@ -92,4 +87,15 @@ pub fn read_row(alloc: Global, row: u32, line: &ByteRecord) -> Result<Row, Table
         backward,
         need,
     })
+}
+
+/// What a record says as the row of this number, or its first fault from the left.
+#[tactic(auto, unfolding(crate::specs::Rows::row_of))]
+pub fn read_row(alloc: Global, row: u32, line: &ByteRecord) -> Result<Row, TableFault>
+    ensures { Gives result (row_of row (fields_of line.now)) }
+{
+    if field_count(line) != 6 {
+        return Err(TableFault::Fields { row });
+    }
+    read_six(alloc, row, line)
 }

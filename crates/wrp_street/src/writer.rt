@@ -1,10 +1,10 @@
-// A town as a street table.
+// A town as a street table. After want of memory a part of what is written may stand.
 
-ghost use Rattle.std.specs.Prelude.{◌≡◌, ◌<◌, ◌≤◌, ◌^◌, ◌++◌, ◌∷◌, [], length, IfOk, OnOk};
+ghost use Rattle.std.specs.Prelude.{◌≡◌, ◌<◌, ◌≤◌, ◌++◌, ◌∷◌, [], length, IfOk, OnOk};
 ghost use Rattle.std.specs.String.{string_bytes};
-ghost use Rattle.wrp_records.specs.Headers.{columns};
+ghost use Rattle.wrp_street.specs.Headers.{columns};
 ghost use Rattle.wrp_records.specs.Lines.{line_text};
-ghost use Rattle.wrp_street.specs.Canonical.{text_of_cost, text_of_need, fields_of_street, canonical_of};
+ghost use Rattle.wrp_street.specs.Canonical.{text_of_cost, text_of_need, fields_of_street, canonical_of, size_limit};
 ghost use Rattle.wrp_street.specs.Tables.{IsTable};
 
 use std::alloc::{AllocError, Global};
@@ -34,7 +34,6 @@ fn need_text(need: Need) -> &'static str
     }
 }
 
-// Writes the header. After want of memory a part of it may stand.
 fn push_header(out: &mut Vec<u8>) -> Result<(), AllocError>
     ensures { OnOk result (out.new.items ≡ out.old.items ++ line_text columns) }
 {
@@ -44,7 +43,6 @@ fn push_header(out: &mut Vec<u8>) -> Result<(), AllocError>
     )
 }
 
-// Writes a row of these six fields. After want of memory a part of it may stand.
 fn push_row<'a>(
     out: &mut Vec<u8>,
     street: &'a [u8],
@@ -60,7 +58,7 @@ fn push_row<'a>(
     push_line(out, &[street, from, to, forward, backward, need])
 }
 
-// Writes a street whose ends are junctions of the town. After want of memory a part of it may stand.
+// Writes a street whose ends are junctions of the town.
 fn push_street(
     alloc: Global,
     out: &mut Vec<u8>,
@@ -69,7 +67,8 @@ fn push_street(
 ) -> Result<(), AllocError>
     requires from { street.now.from < length town.now.junctions }
     requires to { street.now.to < length town.now.junctions }
-    ensures { OnOk result (out.new.items ≡ out.old.items ++ line_text (fields_of_street town.now.junctions street.now)) }
+    ensures { OnOk result (out.new.items ≡ out.old.items
+        ++ line_text (fields_of_street town.now.junctions street.now)) }
 {
     let junctions = town.junctions.as_slice();
     let forward = cost_text(alloc, street.forward)?;
@@ -85,9 +84,9 @@ fn push_street(
     )
 }
 
-/// The town as a street table: a header and a line for each street, in order. Costs have no leading
-/// zeros, and a dash stands for an illegal direction. A name is quoted exactly where it holds a comma
-/// or a double quote. Reading the table gives the same town.
+/// The town as a street table: a header and a line for each street, in order. Costs have no
+/// leading zeros, and a dash stands for an illegal direction. A name is quoted exactly where it
+/// holds a comma or a double quote. Reading the table gives the same town.
 ///
 /// # Errors
 ///
@@ -95,7 +94,7 @@ fn push_street(
 pub fn canonical(alloc: Global, town: &Town) -> Result<Vec<u8>, AllocError>
     ensures text { IfOk result (λ table. table.items ≡ canonical_of town.now) }
     ensures read { IfOk result (λ table. IsTable table.items town.now) }
-    ensures size { IfOk result (λ table. length table.items ≤ 2 ^ 22) }
+    ensures size { IfOk result (λ table. length table.items ≤ size_limit) }
 {
     let mut table = Vec::new(alloc);
     push_header(&mut table)?;

@@ -1,5 +1,4 @@
 pub mod DemandLaws
-pub mod ListEquality
-pub mod ServiceLaws
+pub mod Lists
 pub mod TownLaws
 pub mod WalkLaws

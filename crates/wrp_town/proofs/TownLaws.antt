@@ -8,9 +8,10 @@ use Rattle.std.proofs.lemmas.Option.{option_and_then_some, slice_get_within, sam
 use Rattle.wrp_town.specs.declared.street.Street.{Street}
 use Rattle.wrp_town.specs.declared.street.Step.{Step}
 use Rattle.wrp_town.specs.declared.town.Town.{Town}
+use Rattle.wrp_town.specs.Limits.{junction_limit, street_limit, demand_limit, cost_limit}
 use Rattle.wrp_town.specs.Names.{is_name}
 use Rattle.wrp_town.specs.Streets.{is_cost, is_street}
-use Rattle.wrp_town.specs.Arcs.{street_of, cost_of, tail_of, head_of, is_legal, cost_or_zero, demands, arc_of, step_along}
+use Rattle.wrp_town.specs.Arcs.{is_forward, street_of, cost_of, tail_of, head_of, is_legal, cost_or_zero, demands, arc_of, step_along}
 
 -- ---- lists and options
 
@@ -34,13 +35,13 @@ unwrap_or-at_most (Some x) m each = each x refl
 
 -- ---- the limits
 
-pub few_junctions : (town : Town) → length town.junctions ≤ 2000
+pub few_junctions : (town : Town) → length town.junctions ≤ junction_limit
 few_junctions town = town.well_formed.few_junctions
 
-pub few_streets : (town : Town) → length town.streets ≤ 4000
+pub few_streets : (town : Town) → length town.streets ≤ street_limit
 few_streets town = town.well_formed.few_streets
 
-pub few_demands : (town : Town) → length (demands town) ≤ 4000
+pub few_demands : (town : Town) → length (demands town) ≤ demand_limit
 few_demands town = town.well_formed.few_demands
 
 -- a street with a name, costs in range, and ends among n junctions
@@ -72,25 +73,25 @@ street_of_below town arc below = slice_get_inside town.streets (arc / 2) (omega 
 pub below_from_street_of : (town : Town) (arc : ℕ) (street : Street) → street_of town arc ≡ Some street → arc < 2 * length town.streets
 below_from_street_of town arc street is = omega (arith, slice_get_within town.streets (arc / 2) street is)
 
-is_cost-at_most : (cost : Option ℕ) (c : ℕ) → is_cost cost ≡ true → cost ≡ Some c → c ≤ 1000000000
-is_cost-at_most cost c is some = leb-true c 1000000000 (subst (λ o. is_cost o ≡ true) some is)
+is_cost-at_most : (cost : Option ℕ) (c : ℕ) → is_cost cost ≡ true → cost ≡ Some c → c ≤ cost_limit
+is_cost-at_most cost c is some = leb-true c cost_limit (subst (λ o. is_cost o ≡ true) some is)
 
-pub IfSome-from_is_cost : (cost : Option ℕ) → is_cost cost ≡ true → IfSome cost (λ c. c ≤ 1000000000)
+pub IfSome-from_is_cost : (cost : Option ℕ) → is_cost cost ≡ true → IfSome cost (λ c. c ≤ cost_limit)
 IfSome-from_is_cost None is = tt
-IfSome-from_is_cost (Some c) is = leb-true c 1000000000 is
+IfSome-from_is_cost (Some c) is = leb-true c cost_limit is
 
 cond-is_cost : (even : Bool) (n : ℕ) (street : Street) → IsSound n street → is_cost (cond even street.forward street.backward) ≡ true
 cond-is_cost true n street sound = sound.forward
 cond-is_cost false n street sound = sound.backward
 
--- no cost is above 1,000,000,000
-pub cost_of-at_most : (town : Town) (arc cost : ℕ) → cost_of town arc ≡ Some cost → cost ≤ 1000000000
+-- no cost is above the limit
+pub cost_of-at_most : (town : Town) (arc cost : ℕ) → cost_of town arc ≡ Some cost → cost ≤ cost_limit
 cost_of-at_most town arc cost is =
-    option_and_then_some (λ (street : Street). if arc % 2 == 0 then street.forward else street.backward) (street_of town arc) cost is
-    (λ street street_is cost_is. is_cost-at_most _ cost (cond-is_cost (arc % 2 == 0) _ street (sound_street town (arc / 2) street street_is)) cost_is)
+    option_and_then_some (λ (street : Street). if is_forward arc then street.forward else street.backward) (street_of town arc) cost is
+    (λ street street_is cost_is. is_cost-at_most _ cost (cond-is_cost (is_forward arc) _ street (sound_street town (arc / 2) street street_is)) cost_is)
 
-pub cost_or_zero-at_most : (town : Town) (arc : ℕ) → cost_or_zero town arc ≤ 1000000000
-cost_or_zero-at_most town arc = unwrap_or-at_most (cost_of town arc) 1000000000 (cost_of-at_most town arc)
+pub cost_or_zero-at_most : (town : Town) (arc : ℕ) → cost_or_zero town arc ≤ cost_limit
+cost_or_zero-at_most town arc = unwrap_or-at_most (cost_of town arc) cost_limit (cost_of-at_most town arc)
 
 -- a legal arc is below twice the number of streets, and has its cost
 pub legal_cost : (town : Town) (arc : ℕ) → is_legal town arc ≡ true → cost_of town arc ≡ Some (cost_or_zero town arc)
@@ -98,17 +99,13 @@ legal_cost town arc legal = let c = some_value (cost_of town arc) legal in c.1 �
 
 pub legal_below : (town : Town) (arc : ℕ) → is_legal town arc ≡ true → arc < 2 * length town.streets
 legal_below town arc legal =
-    option_and_then_some (λ (street : Street). if arc % 2 == 0 then street.forward else street.backward) (street_of town arc) (cost_or_zero town arc) (legal_cost town arc legal)
+    option_and_then_some (λ (street : Street). if is_forward arc then street.forward else street.backward) (street_of town arc) (cost_or_zero town arc) (legal_cost town arc legal)
     (λ street street_is cost_is. below_from_street_of town arc street street_is)
 
--- what the words on arcs say where the street is known
-pub cost_of-at : (town : Town) (arc : ℕ) (street : Street) → street_of town arc ≡ Some street → cost_of town arc ≡ (if arc % 2 == 0 then street.forward else street.backward)
-cost_of-at town arc street is = rw is refl
-
-pub tail_of-at : (town : Town) (arc : ℕ) (street : Street) → street_of town arc ≡ Some street → tail_of town arc ≡ (if arc % 2 == 0 then street.from else street.to)
+pub tail_of-at : (town : Town) (arc : ℕ) (street : Street) → street_of town arc ≡ Some street → tail_of town arc ≡ (if is_forward arc then street.from else street.to)
 tail_of-at town arc street is = rw is refl
 
-pub head_of-at : (town : Town) (arc : ℕ) (street : Street) → street_of town arc ≡ Some street → head_of town arc ≡ (if arc % 2 == 0 then street.to else street.from)
+pub head_of-at : (town : Town) (arc : ℕ) (street : Street) → street_of town arc ≡ Some street → head_of town arc ≡ (if is_forward arc then street.to else street.from)
 head_of-at town arc street is = rw is refl
 
 cond-below : (even : Bool) (a b n : ℕ) → a < n → b < n → cond even a b < n
@@ -120,41 +117,22 @@ pub tail_of-below : (town : Town) (arc : ℕ) → arc < 2 * length town.streets 
 tail_of-below town arc below =
     let s = street_of_below town arc below in
     let sound = sound_street town (arc / 2) s.0 s.1 in
-    rw (tail_of-at town arc s.0 s.1) (cond-below (arc % 2 == 0) s.0.from s.0.to _ sound.from sound.to)
+    rw (tail_of-at town arc s.0 s.1) (cond-below (is_forward arc) s.0.from s.0.to _ sound.from sound.to)
 
 pub head_of-below : (town : Town) (arc : ℕ) → arc < 2 * length town.streets → head_of town arc < length town.junctions
 head_of-below town arc below =
     let s = street_of_below town arc below in
     let sound = sound_street town (arc / 2) s.0 s.1 in
-    rw (head_of-at town arc s.0 s.1) (cond-below (arc % 2 == 0) s.0.to s.0.from _ sound.to sound.from)
+    rw (head_of-at town arc s.0 s.1) (cond-below (is_forward arc) s.0.to s.0.from _ sound.to sound.from)
 
 -- ---- the arcs of a street, and of a step
-
-pub forward_arc-half : (s : ℕ) → (2 * s) / 2 ≡ s
-forward_arc-half s = omega arith
-
-pub forward_arc-even : (s : ℕ) → (2 * s) % 2 ≡ 0
-forward_arc-even s = omega arith
-
-pub backward_arc-half : (s : ℕ) → (2 * s + 1) / 2 ≡ s
-backward_arc-half s = omega arith
-
-pub backward_arc-odd : (s : ℕ) → (2 * s + 1) % 2 ≡ 1
-backward_arc-odd s = omega arith
 
 arc-half : (s : ℕ) (back : Bool) → (2 * s + cond back 1 0) / 2 ≡ s
 arc-half s true = omega arith
 arc-half s false = omega arith
 
-arc-rest : (s : ℕ) (back : Bool) → (2 * s + cond back 1 0) % 2 ≡ cond back 1 0
-arc-rest s true = omega arith
-arc-rest s false = omega arith
-
 pub arc_of-half : (step : Step) → arc_of step / 2 ≡ step.street
 arc_of-half step = arc-half step.street step.back
-
-pub arc_of-rest : (step : Step) → arc_of step % 2 ≡ cond step.back 1 0
-arc_of-rest step = arc-rest step.street step.back
 
 -- a legal step names a street
 pub legal_step_below : (town : Town) (step : Step) → is_legal town (arc_of step) ≡ true → step.street < length town.streets

@@ -5,6 +5,7 @@ use Rattle.std.specs.Str.{bytes_eq}
 use Rattle.wrp_town.specs.declared.street.Need.{Need}
 use Rattle.wrp_town.specs.declared.street.Need.TheVariants.{No, Either, Forward, Backward, Both}
 use Rattle.wrp_town.specs.declared.street.Street.{Street}
+use Rattle.wrp_town.specs.Limits.{junction_limit, street_limit, demand_limit, cost_limit}
 use Rattle.wrp_town.specs.Names.{is_name}
 
 -- the arc of a street from its first end to its second, and the arc back
@@ -42,20 +43,22 @@ abbrev pub are_different : List (List ℕ) → Bool
 are_different [] = true
 are_different (name ∷ names) = not (list_any (bytes_eq name) names) && are_different names
 
--- a legal direction costs at most 1,000,000,000
+-- a direction that is illegal, or has a cost within the limit
 abbrev pub is_cost : Option ℕ → Bool
 is_cost None = true
-is_cost (Some cost) = nat_le cost 1000000000
+is_cost (Some cost) = nat_le cost cost_limit
 
 -- a street with a name, costs in range, and ends among n junctions
 abbrev pub is_street : ℕ → Street → Bool
-is_street n street = is_name street.name && is_cost street.forward && is_cost street.backward && nat_lt street.from n && nat_lt street.to n
+is_street n street =
+    is_name street.name && is_cost street.forward && is_cost street.backward
+    && nat_lt street.from n && nat_lt street.to n
 
 -- the junctions and the streets of a town: within the limits, the junctions as they first appear
 pub record IsTown (junctions : List (List ℕ)) (streets : List Street) : Type 0 where
-  pub few_junctions : length junctions ≤ 2000
-  pub few_streets : length streets ≤ 4000
-  pub few_demands : length (demands_from 0 streets) ≤ 4000
+  pub few_junctions : length junctions ≤ junction_limit
+  pub few_streets : length streets ≤ street_limit
+  pub few_demands : length (demands_from 0 streets) ≤ demand_limit
   pub named : list_all is_name junctions ≡ true
   pub different : are_different junctions ≡ true
   pub sound : list_all (is_street (length junctions)) streets ≡ true

@@ -5,15 +5,18 @@ use Rattle.wrp_town.specs.declared.street.Step.{Step}
 use Rattle.wrp_town.specs.declared.town.Town.{Town}
 use Rattle.wrp_town.specs.Arcs.{arc_of, is_legal, tail_of, head_of, cost_or_zero, demands, has_arc}
 
--- the steps lead from junction i to junction j: each is legal and begins where the one before it ends
+-- the steps lead from junction i to junction j: each is legal and begins where the one before ends
 abbrev pub leads : Town → ℕ → List Step → ℕ → Bool
 leads town i [] j = i == j
-leads town i (step ∷ steps) j = is_legal town (arc_of step) && tail_of town (arc_of step) == i && leads town (head_of town (arc_of step)) steps j
+leads town i (step ∷ steps) j =
+    is_legal town (arc_of step) && tail_of town (arc_of step) == i
+    && leads town (head_of town (arc_of step)) steps j
 
 -- a closed walk leads back to where its first step begins; the empty list is one
 abbrev pub is_closed_walk : Town → List Step → Bool
 is_closed_walk town [] = true
-is_closed_walk town (step ∷ steps) = leads town (tail_of town (arc_of step)) (step ∷ steps) (tail_of town (arc_of step))
+is_closed_walk town (step ∷ steps) =
+    let base = tail_of town (arc_of step) in leads town base (step ∷ steps) base
 
 -- a walk serves a demand where a step on one of its arcs occurs in it
 abbrev pub serves : List Step → List ℕ → Bool

@@ -1,7 +1,7 @@
 //! Which kind of postman problem a town poses.
-ghost use Rattle.std.specs.Prelude.{◌≡◌, ◌||◌};
+ghost use Rattle.std.specs.Prelude.{◌≡◌};
 ghost use Rattle.std.specs.List.{list_all};
-ghost use Rattle.wrp_town.specs.Classes.{is_one_way as is_one_way_street, is_two_way as is_two_way_street, class_of};
+ghost use Rattle.wrp_town.specs.Classes.{has_one_direction_at_most, is_symmetric, is_directed_or_symmetric, class_of};
 
 use crate::size::demand_count;
 use crate::street::Street;
@@ -22,16 +22,16 @@ pub enum Class {
     Windy,
 }
 
-// Whether the street has at most one legal direction.
-fn is_one_way(street: &Street) -> bool
-    ensures { result ≡ is_one_way_street street.now }
+// Whether at most one direction of the street is legal.
+fn has_one_direction_at_most(street: &Street) -> bool
+    ensures { result ≡ has_one_direction_at_most street.now }
 {
     street.forward.is_none() || street.backward.is_none()
 }
 
-// Whether the street has two legal directions of equal cost.
-fn is_two_way(street: &Street) -> bool
-    ensures { result ≡ is_two_way_street street.now }
+// Whether both directions of the street are legal, at equal cost.
+fn is_symmetric(street: &Street) -> bool
+    ensures { result ≡ is_symmetric street.now }
 {
     match (street.forward, street.backward) {
         (Some(there), Some(back)) => there == back,
@@ -39,41 +39,38 @@ fn is_two_way(street: &Street) -> bool
     }
 }
 
-// Whether every street has at most one legal direction.
-fn are_one_way(streets: &[Street]) -> bool
-    ensures { result ≡ list_all is_one_way_street streets.now }
-{
-    streets.iter().all(|street| is_one_way(street))
-}
-
-// Whether every street has two legal directions of equal cost.
-fn are_two_way(streets: &[Street]) -> bool
-    ensures { result ≡ list_all is_two_way_street streets.now }
-{
-    streets.iter().all(|street| is_two_way(street))
-}
-
-// Whether every street has at most one legal direction, or two of equal cost.
-fn are_plain(streets: &[Street]) -> bool
-    ensures { result ≡ list_all (λ street. is_one_way_street street || is_two_way_street street) streets.now }
+fn are_directed(streets: &[Street]) -> bool
+    ensures { result ≡ list_all has_one_direction_at_most streets.now }
 {
     streets
         .iter()
-        .all(|street| is_one_way(street) || is_two_way(street))
+        .all(|street| has_one_direction_at_most(street))
 }
 
-/// The class of a town. It takes no memory.
+fn are_symmetric(streets: &[Street]) -> bool
+    ensures { result ≡ list_all is_symmetric streets.now }
+{
+    streets.iter().all(|street| is_symmetric(street))
+}
+
+fn are_directed_or_symmetric(streets: &[Street]) -> bool
+    ensures { result ≡ list_all is_directed_or_symmetric streets.now }
+{
+    streets.iter().all(|street| has_one_direction_at_most(street) || is_symmetric(street))
+}
+
+/// The class of a town.
 pub fn class_of(town: &Town) -> Class
     ensures { result ≡ class_of town.now }
 {
     let streets = town.streets.as_slice();
     if demand_count(town) == 0 {
         Class::Empty
-    } else if are_one_way(streets) {
+    } else if are_directed(streets) {
         Class::Directed
-    } else if are_two_way(streets) {
+    } else if are_symmetric(streets) {
         Class::Rural
-    } else if are_plain(streets) {
+    } else if are_directed_or_symmetric(streets) {
         Class::Mixed
     } else {
         Class::Windy

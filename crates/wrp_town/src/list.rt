@@ -34,7 +34,7 @@ impl<T: Eq> Eq for List<T> {
 }
 
 impl<T> List<T> {
-    /// An empty list. It takes no memory until an item is added.
+    /// An empty list.
     pub fn new(alloc: Global) -> List<T>
         ensures { result ≡ [] }
     {
@@ -43,21 +43,21 @@ impl<T> List<T> {
         }
     }
 
-    /// The list of the items of a vector. It takes no memory.
+    /// The list of the items of a vector.
     pub fn from_vec(v: Vec<T>) -> List<T>
         ensures { result ≡ v.items }
     {
         List { items: v }
     }
 
-    /// The vector of the items. It takes no memory.
+    /// The vector of the items.
     pub fn into_vec(self) -> Vec<T>
         ensures { result.items ≡ self }
     {
         self.items
     }
 
-    /// Lends the items. It takes no memory.
+    /// Lends the items.
     pub fn as_slice(&self) -> &[T]
         ensures { result.now ≡ self.now }
     {
@@ -94,7 +94,7 @@ impl<T> List<T> {
 }
 
 impl<T: Copy> List<T> {
-    /// Puts an item in the place of the one at `at`, and changes no other. It takes no memory.
+    /// Puts an item in the place of the one at `at`, and changes no other.
     pub fn set(&mut self, at: usize, item: T)
         requires { at < length self.old }
         ensures { self.new ≡ slice_set self.old at item }
@@ -106,54 +106,23 @@ impl<T: Copy> List<T> {
 #[cfg(test)]
 mod tests {
     use super::*;
-    use std::alloc::AllocError;
     use std::test::Fail;
 
-    #[derive(Debug, Drop, Clone, PartialEq, Eq)]
-    enum Entry {
-        Junctions { junctions: List<u32>, node: u64 },
-        Weights { weights: List<(u32, u64)> },
-        End,
-    }
-
-    fn is_same(a: &Entry, b: &Entry) -> bool
+    fn is_same(a: &List<u32>, b: &List<u32>) -> bool
         ensures { IsTrue result ↔ (a.now ≡ b.now) }
     {
         a == b
-    }
-
-    fn is_same_list(a: &List<u32>, b: &List<u32>) -> bool
-        ensures { IsTrue result ↔ (a.now ≡ b.now) }
-    {
-        a == b
-    }
-
-    fn copy_of(entry: &Entry) -> Result<Entry, AllocError>
-        ensures { IfOk result (λ copy. copy ≡ entry.now) }
-    {
-        entry.clone()
-    }
-
-    fn copy_of_entries(list: &List<Entry>) -> Result<List<Entry>, AllocError>
-        ensures { IfOk result (λ copy. copy ≡ list.now) }
-    {
-        list.clone()
     }
 
     #[test]
     fn lists_grow_and_change(rt: HostRuntime) -> Result<(), Fail> {
         let mut list = List::new(rt.alloc());
-        assert!(rt; list.is_empty());
         list.push(5)?;
         list.push(6)?;
         list.set(1, 7);
-        assert_eq!(rt; list.len(), 2);
-        assert_eq!(rt; list.as_slice(), [5, 7].as_slice());
-        let entry = Entry::Junctions {
-            junctions: List::from_vec(list.into_vec()),
-            node: 3,
-        };
-        assert!(rt; entry.clone()? == entry);
+        let copy = list.clone()?;
+        assert!(rt; is_same(&list, &copy));
+        assert_eq!(rt; list.into_vec().as_slice(), [5, 7].as_slice());
         Ok(())
     }
 }

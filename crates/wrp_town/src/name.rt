@@ -4,11 +4,13 @@ ghost use Rattle.std.specs.List.{list_all};
 ghost use Rattle.std.specs.Str.{is_utf8};
 ghost use Rattle.wrp_town.specs.Names.{is_plain, is_short_and_plain, has_bare_ends, is_name};
 
+use crate::limits::NAME_LIMIT;
 use std::alloc::{AllocError, Global};
 use std::hash::{Hash, Hasher};
 use std::marker::Model;
 
-const MAX_BYTES: usize = 64;
+// The control byte above the other bytes of ASCII.
+const DELETE: u8 = 0x7F;
 
 /// A name: 1 to 64 bytes of UTF-8 without control bytes, and with no space at either end.
 #[derive(Debug, Drop, Clone)]
@@ -69,7 +71,8 @@ impl Name {
     ///
     /// Want of memory alone.
     pub fn new(alloc: Global, bytes: &[u8]) -> Result<Option<Name>, AllocError>
-        ensures { IfOk result (λ name. name ≡ (if is_name bytes.now then Some bytes.now else None)) }
+        ensures { IfOk result (λ name. name
+            ≡ (if is_name bytes.now then Some bytes.now else None)) }
     {
         if !is_short_and_plain_text(bytes) || !has_bare_ends_of(bytes) {
             return Ok(None);
@@ -82,7 +85,7 @@ impl Name {
         }
     }
 
-    /// Lends the text. It takes no memory.
+    /// Lends the text.
     pub fn as_str(&self) -> &str
         ensures text { result.now ≡ self.now }
         ensures name { is_name self.now ≡ true }
@@ -91,28 +94,24 @@ impl Name {
     }
 }
 
-/// Whether a name may hold the byte.
 fn is_plain_byte(byte: u8) -> bool
     ensures { result ≡ is_plain byte }
 {
-    byte >= b' ' && byte != 0x7F
+    byte >= b' ' && byte != DELETE
 }
 
-/// Whether there are 1 to 64 bytes, each of which a name may hold.
 fn is_short_and_plain_text(bytes: &[u8]) -> bool
     ensures { result ≡ is_short_and_plain bytes.now }
 {
-    !bytes.is_empty() && bytes.len() <= MAX_BYTES && are_plain(bytes)
+    !bytes.is_empty() && bytes.len() <= NAME_LIMIT && are_plain(bytes)
 }
 
-/// Whether a name may hold each of the bytes.
 fn are_plain(bytes: &[u8]) -> bool
     ensures { result ≡ list_all is_plain bytes.now }
 {
     bytes.iter().all(|byte| is_plain_byte(*byte))
 }
 
-/// Whether no space stands at either end.
 fn has_bare_ends_of(bytes: &[u8]) -> bool
     requires { 0 < length bytes.now }
     ensures { result ≡ has_bare_ends bytes.now }
@@ -120,7 +119,7 @@ fn has_bare_ends_of(bytes: &[u8]) -> bool
     bytes[0] != b' ' && bytes[bytes.len() - 1] != b' '
 }
 
-/// The bytes as a text, where they are UTF-8.
+// The bytes as a text, where they are UTF-8.
 fn as_text(bytes: &[u8]) -> Option<&str>
     ensures test { is_some result ≡ is_utf8 bytes.now }
     ensures text { IfSome result (λ text. text.now ≡ bytes.now) }
@@ -134,15 +133,7 @@ fn as_text(bytes: &[u8]) -> Option<&str>
 #[cfg(test)]
 mod tests {
     use super::*;
-    use crate::List;
     use std::test::Fail;
-
-    #[derive(Debug, Drop, Clone, PartialEq, Eq)]
-    struct Place {
-        name: Name,
-        others: List<Name>,
-        cost: Option<u32>,
-    }
 
     fn is_same(a: &Name, b: &Name) -> bool
         ensures { IsTrue result ↔ (a.now ≡ b.now) }
@@ -150,35 +141,23 @@ mod tests {
         a == b
     }
 
-    fn copy_of(name: &Name) -> Result<Name, AllocError>
-        ensures { IfOk result (λ copy. copy ≡ name.now) }
-    {
-        name.clone()
-    }
-
-    fn is_same_place(a: &Place, b: &Place) -> bool
-        ensures { IsTrue result ↔ (a.now ≡ b.now) }
-    {
-        a == b
-    }
-
-    fn copy_of_place(place: &Place) -> Result<Place, AllocError>
-        ensures { IfOk result (λ copy. copy ≡ place.now) }
-    {
-        place.clone()
-    }
-
     #[test]
     fn names_keep_the_rule(rt: HostRuntime) -> Result<(), Fail> {
-        let alloc = rt.alloc();
         for (bytes, want) in [
-            (b"A".as_slice(), true),
+            ([b'a'; 64].as_slice(), true),
+            ([b'a'; 65].as_slice(), false),
             (b"", false),
             (b" A", false),
             (b"A ", false),
+            (b"\x1F", false),
+            (b"\x7F", false),
+            (b"\xFF", false),
         ] {
-            let name = Name::new(alloc, bytes)?;
+            let name = Name::new(rt.alloc(), bytes)?;
             assert_eq!(rt; name.is_some(), want);
+            if let Some(name) = name {
+                assert!(rt; is_same(&name, &name.clone()?));
+            }
         }
         Ok(())
     }

@@ -6,9 +6,8 @@ use crate::street::Street;
 
 /// The streets of a town and the junctions that they join.
 ///
-/// Junctions are listed in the order in which the streets name them, the first end of a street before
-/// its second. A town keeps its limits: 2,000 junctions, 4,000 streets, 4,000 demands, and costs of at
-/// most 1,000,000,000.
+/// Junctions are listed in the order in which the streets name them, the first end of a street
+/// before its second. A town keeps within the limits of this crate.
 #[derive(Debug, Drop)]
 pub struct Town {
     pub junctions: List<Name>,
@@ -18,6 +17,7 @@ pub struct Town {
 
 impl Town {
     ghost use Rattle.std.specs.Prelude.{◌≡◌, ◌*◌, ◌/◌, ◌<◌, ◌≤◌, Some, IfSome, length};
+    ghost use Rattle.wrp_town.specs.Limits.{cost_limit};
     ghost use Rattle.wrp_town.specs.Arcs.{street_of, cost_of, tail_of, head_of};
 
     /// The street of an arc.
@@ -28,7 +28,7 @@ impl Town {
         &self.streets.as_slice()[(arc / 2) as usize]
     }
 
-    /// The junction that an arc leaves. It takes no memory.
+    /// The junction that an arc leaves.
     pub fn tail(&self, arc: u32) -> u32
         requires { arc < 2 * length self.now.streets }
         ensures value { result ≡ tail_of self.now arc }
@@ -38,7 +38,7 @@ impl Town {
         if arc % 2 == 0 { street.from } else { street.to }
     }
 
-    /// The junction that an arc enters. It takes no memory.
+    /// The junction that an arc enters.
     pub fn head(&self, arc: u32) -> u32
         requires { arc < 2 * length self.now.streets }
         ensures value { result ≡ head_of self.now arc }
@@ -48,11 +48,11 @@ impl Town {
         if arc % 2 == 0 { street.to } else { street.from }
     }
 
-    /// The cost of driving an arc, and `None` where it is illegal. It takes no memory.
+    /// The cost of driving an arc, and `None` where it is illegal.
     pub fn cost(&self, arc: u32) -> Option<u32>
         requires { arc < 2 * length self.now.streets }
         ensures value { result ≡ cost_of self.now arc }
-        ensures limit { IfSome result (λ cost. cost ≤ 1000000000) }
+        ensures limit { IfSome result (λ cost. cost ≤ cost_limit) }
     {
         let street = self.street(arc);
         if arc % 2 == 0 {

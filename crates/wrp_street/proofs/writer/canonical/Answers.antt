@@ -1,4 +1,5 @@
 use Rattle.std.proofs.Common.{subst, sym, ◌≤◌, ◌^◌, List, ℕ, length}
+use Rattle.wrp_street.specs.Canonical.{size_limit}
 use Rattle.wrp_street.specs.Tables.{IsTable}
 use Rattle.wrp_street.proofs.TextSteps.{sound_item, header_written, street_written, all_written}
 use Rattle.wrp_street.proofs.TextSize.{length-canonical_of}
@@ -38,6 +39,6 @@ returns-clause-read c =
 
 pub returns-clause-size : goal.returns-clause-size
 returns-clause-size c =
-    subst (λ (text : List ℕ). length text ≤ 2 ^ 22)
+    subst (λ (text : List ℕ). length text ≤ size_limit)
     (sym (all_written c.args.town.now c.as_slice-street-items.result.now c.loop-street.street-index c.loop-street.table.items c.as_slice-street-items.ensures c.loop-street-test.false c.loop-street.invariant))
     (length-canonical_of c.args.town.now)

@@ -9,4 +9,4 @@ returns-clause-rows c =
 
 pub returns-clause-counted : goal.returns-clause-counted
 returns-clause-counted c =
-    rw (c.in_ok-push.ensures.ok, length-demands_from-push) (omega (arith, c.requires.counted, c.demands_of.ensures))
+    rw (c.in_ok-push.ensures.ok, length-demands_from-push) (omega (arith, c.requires.counted, c.demand_count.ensures.count 0))

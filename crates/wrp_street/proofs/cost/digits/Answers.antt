@@ -1,6 +1,6 @@
 use Rattle.std.proofs.Common.{sym, ◌∙◌}
-use Rattle.wrp_records.proofs.DigitSteps.{one_more}
-use Rattle.wrp_records.proofs.fields.digits.Goals as goal
+use Rattle.wrp_street.proofs.DigitSteps.{one_more}
+use Rattle.wrp_street.proofs.cost.digits.Goals as goal
 
 -- one more digit keeps what is said of those read so far
 pub loop-digit-preserved : goal.loop-digit-preserved

@@ -5,15 +5,14 @@ ghost use Rattle.std.specs.List.{slice_index_or};
 ghost use Rattle.std.specs.Str.{bytes_eq};
 ghost use Rattle.wrp_records.specs.Streams.{fields_of};
 ghost use Rattle.wrp_records.specs.Fields.{trimmed};
-ghost use Rattle.wrp_records.specs.Headers.{is_header as is_header_record};
+ghost use Rattle.wrp_street.specs.Headers.{is_header as is_header_record};
 
-use crate::fields::{is_text, trim};
-use crate::records::{field_count, text_at};
-use csv::ByteRecord;
+use wrp_records::{ByteRecord, field_count, is_text, text_at, trim};
 
 // Whether the field at `index`, without blanks at its ends, is this word.
 fn is_named(line: &ByteRecord, index: usize, word: &[u8]) -> bool
-    ensures { result ≡ bytes_eq (trimmed (slice_index_or (fields_of line.now) index [])) word.now }
+    ensures { result
+        ≡ bytes_eq (trimmed (slice_index_or (fields_of line.now) index [])) word.now }
 {
     is_text(trim(text_at(line, index)), word)
 }

@@ -5,7 +5,7 @@ use Rattle.std.proofs.lemmas.Bool.Decides.{nat_tests}
 use Rattle.std.specs.List.{slice_index_or}
 use Rattle.std.specs.Str.{bytes_eq}
 use Rattle.wrp_records.specs.Fields.{trimmed}
-use Rattle.wrp_records.specs.Headers.{is_header}
+use Rattle.wrp_street.specs.Headers.{is_header}
 
 -- six tests, grouped from either end
 six_tests : (a b c d e f : Bool) → (a && (b && (c && (d && (e && (f && true)))))) ≡ (a && b && c && d && e && f)

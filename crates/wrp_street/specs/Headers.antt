@@ -6,7 +6,9 @@ use Rattle.wrp_records.specs.Fields.{trimmed}
 
 -- the names of the six columns, in order
 abbrev pub columns : List (List ℕ)
-columns = codes "street" ∷ codes "from" ∷ codes "to" ∷ codes "forward" ∷ codes "backward" ∷ codes "need" ∷ []
+columns =
+    codes "street" ∷ codes "from" ∷ codes "to"
+    ∷ codes "forward" ∷ codes "backward" ∷ codes "need" ∷ []
 
 -- whether a record's fields, without blanks at their ends, are the names of the columns
 unfoldable pub is_header : List (List ℕ) → Bool

@@ -1,5 +1,6 @@
 -- A cost that was written in digits is read back.
 use Rattle.std.proofs.Common.{◌≡◌, ◌≤◌, ◌<◌, ◌^◌, ◌==◌, ◌&&◌, ◌∷◌, [], ℕ, List, Bool, true, false, Some, None, cond, nat_le, length, lit<, refl, ◌∙◌, ap, arith}
+use Rattle.std.proofs.lemmas.Bool.{and_from, and_parts, le-leb}
 use Rattle.std.proofs.lemmas.Bool.Decides.{nat_tests}
 use Rattle.std.proofs.lemmas.Fmt.{decimal_nonempty, digits_decimal, digits_value-decimal, length-decimal-le}
 use Rattle.std.proofs.lemmas.Str.Parse.{digit_from_value, numerals_by_value, tells_digits}
@@ -7,8 +8,9 @@ use Rattle.std.specs.Char.{is_ascii_digit}
 use Rattle.std.specs.Fmt.{decimal}
 use Rattle.std.specs.List.{list_all}
 use Rattle.std.specs.Str.Parse.{AllDigits, digits_value}
-use Rattle.wrp_records.specs.Fields.{cost_limit, cost_of, is_blank, is_cost_number, is_dash, trim_end, trim_start, trimmed}
-use Rattle.wrp_records.proofs.ReadBack.{both_left, both_right}
+use Rattle.wrp_records.specs.Fields.{is_blank, trim_end, trim_start, trimmed}
+use Rattle.wrp_town.specs.Limits.{cost_limit}
+use Rattle.wrp_street.specs.Costs.{cost_of, digit_limit, is_cost_number, is_dash}
 
 digit_not_blank : (byte : ℕ) → is_ascii_digit byte ≡ true → is_blank byte ≡ false
 digit_not_blank byte digit = grind (arith, nat_tests)
@@ -21,15 +23,15 @@ unfolding trim_end
 digits_at_end [] digits = refl
 digits_at_end (byte ∷ bytes) digits =
     rw (
-      digit_not_blank byte (both_left (is_ascii_digit byte) (list_all is_ascii_digit bytes) digits),
-      digits_at_end bytes (both_right (is_ascii_digit byte) (list_all is_ascii_digit bytes) digits),
+      digit_not_blank byte (and_parts (is_ascii_digit byte) (list_all is_ascii_digit bytes) digits).0,
+      digits_at_end bytes (and_parts (is_ascii_digit byte) (list_all is_ascii_digit bytes) digits).1,
     ) refl
 
 digits_at_start : (text : List ℕ) → list_all is_ascii_digit text ≡ true → trim_start text ≡ text
 unfolding trim_start
 digits_at_start [] digits = refl
 digits_at_start (byte ∷ bytes) digits =
-    rw (digit_not_blank byte (both_left (is_ascii_digit byte) (list_all is_ascii_digit bytes) digits)) refl
+    rw (digit_not_blank byte (and_parts (is_ascii_digit byte) (list_all is_ascii_digit bytes) digits).0) refl
 
 -- digits have no blanks to trim
 pub trimmed-digits : (text : List ℕ) → list_all is_ascii_digit text ≡ true → trimmed text ≡ text
@@ -38,37 +40,26 @@ trimmed-digits text digits = ap trim_end (digits_at_start text digits) ∙ digit
 digits_no_dash : (text : List ℕ) → list_all is_ascii_digit text ≡ true → is_dash text ≡ false
 digits_no_dash [] digits = refl
 digits_no_dash (byte ∷ bytes) digits =
-    rw (digit_not_dash byte (both_left (is_ascii_digit byte) (list_all is_ascii_digit bytes) digits)) refl
+    rw (digit_not_dash byte (and_parts (is_ascii_digit byte) (list_all is_ascii_digit bytes) digits).0) refl
 
 chosen : (a b c : Bool) (value : ℕ) → a ≡ false → b ≡ false → c ≡ true
     → cond a (Some None) (cond b (Some None) (cond c (Some (Some value)) None)) ≡ Some (Some value)
 chosen a b c value empty dash number = rw (empty, dash, number) refl
 
-all_hold : (a b c : Bool) → a ≡ true → b ≡ true → c ≡ true → (a && (b && c)) ≡ true
-all_hold a b c p q r = rw (p, q, r) refl
-
-le_holds : (a b : ℕ) → a ≤ b → nat_le a b ≡ true
-le_holds a b below = grind (arith, nat_tests)
-
 -- one to ten digits of a value within the limit are a cost
-pub cost_of-digits : (text : List ℕ) → 0 < length text → length text ≤ 10 → list_all is_ascii_digit text ≡ true
+cost_of-digits : (text : List ℕ) → 0 < length text → length text ≤ digit_limit → list_all is_ascii_digit text ≡ true
     → digits_value 10 text ≤ cost_limit → cost_of text ≡ Some (Some (digits_value 10 text))
 unfolding cost_of
 cost_of-digits text some few digits small =
     let empty : (length text == 0) ≡ false = grind (arith, nat_tests) in
     rw (trimmed-digits text digits)
     (chosen (length text == 0) (is_dash text) (is_cost_number text) (digits_value 10 text) empty (digits_no_dash text digits)
-    (all_hold (nat_le (length text) 10) (list_all is_ascii_digit text) (nat_le (digits_value 10 text) cost_limit)
-    (le_holds (length text) 10 few) digits (le_holds (digits_value 10 text) cost_limit small)))
+    (and_from _ _ (le-leb (length text) digit_limit few) (and_from _ _ digits (le-leb (digits_value 10 text) cost_limit small))))
 
--- a dash, and an empty field, stand for an illegal direction
+-- a dash stands for an illegal direction
 pub cost_of-dash : cost_of (45 ∷ []) ≡ Some None
 unfolding cost_of trim_start trim_end
 cost_of-dash = refl
-
-pub cost_of-empty : cost_of [] ≡ Some None
-unfolding cost_of trim_start trim_end
-cost_of-empty = refl
 
 list_all-from_AllDigits : (text : List ℕ) → AllDigits 10 text → list_all is_ascii_digit text ≡ true
 list_all-from_AllDigits [] digits = refl
