@@ -14,24 +14,24 @@ use Rattle.wrp_rules.specs.Nodes.{Standing, root, with_bound, is_below, bound_va
 use Rattle.wrp_rules.specs.Rules.{has_number_rules, is_labels, first_broken}
 use Rattle.wrp_rules.specs.Judged.{judged_rule}
 use Rattle.wrp_check.specs.declared.judge.Judge.{Judge}
-use Rattle.wrp_check.specs.declared.bound.Judged.{Judged}
-use Rattle.wrp_check.specs.declared.bound.Judged.TheVariants as judged_as
-use Rattle.wrp_check.specs.Pools.{is_plain, judged}
-use Rattle.wrp_check.specs.Judging.{IsReady, Stands, Judges, bound_or_rule}
+use Rattle.wrp_check.specs.declared.bound.BoundVerdict.{BoundVerdict}
+use Rattle.wrp_check.specs.declared.bound.BoundVerdict.TheVariants as verdicts
+use Rattle.wrp_check.specs.Tables.{has_no_negative_reduced_cost, bound_or_negative, bound_verdict}
+use Rattle.wrp_check.specs.Judging.{IsReady, Stands, record_or_rule, Judges, bound_or_rule}
 use Rattle.wrp_check.specs.Verdicts.{unless}
 
 -- the rules of a bound behind Number and Lonely, as tests
 abbrev pub tried : Bool → Bool → Bool → Bool → Option Rule
-tried there opened plain low = first_broken ((rules.Range, there) ∷ (rules.Closed, opened) ∷ (rules.Later, plain) ∷ (rules.Low, low) ∷ [])
+tried there opened none_negative low = first_broken ((rules.Range, there) ∷ (rules.Closed, opened) ∷ (rules.Later, none_negative) ∷ (rules.Low, low) ∷ [])
 
 -- where none is broken, the value is the new bound
 abbrev pub valued : ℤ → Option Rule → Result ℤ Rule
 valued value None = Ok value
 valued value (Some rule) = Err rule
 
--- they say what the judged multipliers say
-tried_as : (there plain : Bool) (value bound : ℤ) (upper : Option ℕ) → bound_or_rule (cond there (cond plain (judged_as.Bound value) judged_as.Negative) judged_as.Missing) bound upper ≡ valued value (tried there (is_below bound upper) plain (int_lt bound value))
-tried_as false plain value bound upper = refl
+-- they say what the verdict on the multipliers says
+tried_as : (there none_negative : Bool) (value bound : ℤ) (upper : Option ℕ) → bound_or_rule (cond there (bound_or_negative none_negative value) verdicts.Missing) bound upper ≡ valued value (tried there (is_below bound upper) none_negative (int_lt bound value))
+tried_as false none_negative value bound upper = refl
 tried_as true true value bound upper = by_tests (is_below bound upper) (int_lt bound value)
   where
     by_tests : (opened low : Bool) → cond opened (cond low (Ok value) (Err rules.Low)) (Err rules.Closed) ≡ valued value (tried true opened true low)
@@ -71,8 +71,8 @@ module _ (town : Town) (den : ℕ) (mult : List (ℕ × ℕ)) where
   root_value bound = bound_value town (base_rows town) (with_bound bound (root town)) den mult
 
   -- what the multipliers say of the root
-  abbrev pub said : ℤ → Judged
-  said bound = judged town (base_rows town) (with_bound bound (root town)) den mult
+  abbrev pub said : ℤ → BoundVerdict
+  said bound = bound_verdict town (base_rows town) (with_bound bound (root town)) den mult
 
   -- the rule that a bound of the root breaks where these rows, this bound and this upper stand, and no Labels record does
   root_rule : (records : List Record) (bound : ℤ) (upper : Option ℕ) → list_any is_labels records ≡ false → has_number_rules (Bound 0 den mult) ≡ true
@@ -80,7 +80,7 @@ module _ (town : Town) (den : ℕ) (mult : List (ℕ × ℕ)) where
       ≡ valued (root_value bound) (judged_rule town (record { records = records; rows = base_rows town; nodes = with_bound bound (root town) ∷ []; upper = upper }) (Bound 0 den mult))
   root_rule records bound upper unlabelled numbers =
       rw (numbers, unlabelled) (tried_as (list_all (λ q. nat_lt q.0 (length (base_rows town))) mult)
-      (is_plain town (base_rows town) (with_bound bound (root town)) den mult) (root_value bound) bound upper)
+      (has_no_negative_reduced_cost town (base_rows town) (with_bound bound (root town)) den mult) (root_value bound) bound upper)
 
   -- the same at what stands
   bound_rule : (s : Standing) (judge : Judge) → Stands town s judge → has_number_rules (Bound 0 den mult) ≡ true
@@ -88,7 +88,7 @@ module _ (town : Town) (den : ℕ) (mult : List (ℕ × ℕ)) where
   bound_rule s judge stands numbers = rw (stands.rows, stands.nodes, stands.upper) (root_rule s.records judge.bound judge.upper stands.unlabelled numbers)
 
   pub bound_refused : (s : Standing) (judge new : Judge) → Stands town s judge → has_number_rules (Bound 0 den mult) ≡ true → (rule : Rule) → Err rule ≡ bound_or_rule (said judge.bound) judge.bound judge.upper
-      → Judges town s (unless (judged_rule town s (Bound 0 den mult)) (Bound 0 den mult)) (Some rule) new
+      → Judges town s (record_or_rule town s (Bound 0 den mult)) (Some rule) new
   bound_refused s judge new stands numbers rule e =
       ap (λ (o : Option Rule). unless o (Bound 0 den mult)) (err_of (root_value judge.bound) rule (judged_rule town s (Bound 0 den mult)) (e ∙ bound_rule s judge stands numbers))
 
@@ -100,7 +100,7 @@ module _ (town : Town) (den : ℕ) (mult : List (ℕ × ℕ)) where
 
   pub bound_taken : (s : Standing) (judge new : Judge) → Stands town s judge → has_number_rules (Bound 0 den mult) ≡ true → Ok new.bound ≡ bound_or_rule (said judge.bound) judge.bound judge.upper
       → IsReady town new → new.upper ≡ judge.upper
-      → Judges town s (unless (judged_rule town s (Bound 0 den mult)) (Bound 0 den mult)) None new
+      → Judges town s (record_or_rule town s (Bound 0 den mult)) None new
   bound_taken s judge new stands numbers e ready upper =
       let told = ok_of (root_value judge.bound) new.bound (judged_rule town s (Bound 0 den mult)) (e ∙ bound_rule s judge stands numbers) in (
         Bound 0 den mult,

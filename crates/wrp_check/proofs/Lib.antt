@@ -1,9 +1,9 @@
 pub mod FirstLines
 pub mod Readings
 pub mod Tables
-pub mod ArcsLeft
+pub mod EachArc
 pub mod Weights
-pub mod PlainValues
+pub mod BoundVerdicts
 pub mod Balances
 pub mod Services
 pub mod TourLaws

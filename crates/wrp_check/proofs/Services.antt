@@ -1,24 +1,26 @@
 -- The sparse rows of a town before any cut are its base rows.
-use Rattle.std.proofs.Common.{◌≡◌, ℕ, zero, suc, ◌+◌, ◌*◌, ◌<◌, ◌≤◌, ◌≢◌, Bool, true, false, cond, ◌==◌, ◌||◌, nat_eq, AllPairs, ℤ, pos, List, [], ◌∷◌, ◌++◌, map, length, get_or, filter, Contains, count_by, ap, refl, sym, ◌∙◌, subst, arith, eq-eqb}
-use Rattle.std.proofs.lemmas.List.{length-map}
+use Rattle.std.proofs.Common.{◌≡◌, ℕ, zero, suc, ◌+◌, ◌*◌, ◌<◌, ◌≤◌, ◌≢◌, Bool, true, false, cond, ◌==◌, ◌||◌, nat_eq, AllPairs, ℤ, pos, unsigned_abs, List, [], ◌∷◌, ◌++◌, map, length, get_or, filter, Contains, count_by, ap, refl, sym, ◌∙◌, subst, arith, eq-eqb}
+use Rattle.std.proofs.lemmas.List.{length-map, get_or-map}
 use Rattle.std.specs.Prelude.{if◌then◌else◌, nat_lt}
-use Rattle.std.specs.List.{AllZip, AllByRecursion, list_any}
-use Rattle.std.proofs.lemmas.Bool.{eqb-true, true≢false, false≢true}
+use Rattle.std.specs.List.{AllZip, AllByRecursion, AllPass, list_any}
+use Rattle.std.proofs.lemmas.Bool.{eqb-true, true≢false}
 use Rattle.std.proofs.lemmas.Bool.Decides.{nat_tests}
-use Rattle.std.proofs.lemmas.List.Elements.{All-map, All-weaker, filter_passes}
+use Rattle.std.proofs.lemmas.List.Elements.{All-cons, All-map, All-weaker, filter_passes}
+use Rattle.std.proofs.lemmas.List.Kept.{AllPairs-cons, AllPairs-filter}
+use Rattle.std.proofs.lemmas.Map.Views.{Contains-from_any}
 use Rattle.std.proofs.lemmas.List.FromFn.{length-map-range_with_len, get_or-map-range_with_len}
-use Rattle.std.proofs.lemmas.List.Sums.{length-filter, count_by-le-length}
-use Rattle.wrp_sums.proofs.SumsOver.{sum_over-map, sum_over-count, count_by-filter, count_once, count_none, inside_head, inside_tail}
+use Rattle.wrp_sums.proofs.SumsOver.{sum_over-map, sum_over-count, count_by-filter, count_once, count_none}
+use Rattle.wrp_sums.proofs.FirstNumbers.{distinct_of_ascending}
 use Rattle.wrp_town.specs.declared.street.Need.{Need}
 use Rattle.wrp_town.specs.declared.street.Need.TheVariants.{No, Either, Forward, Backward, Both}
 use Rattle.wrp_town.specs.declared.street.Street.{Street}
 use Rattle.wrp_town.specs.declared.town.Town.{Town}
 use Rattle.wrp_town.specs.Streets.{demands_at, demands_from}
 use Rattle.wrp_town.specs.Arcs.{is_legal, junctions, demands}
-use Rattle.wrp_town.proofs.TownLaws.{few_streets, legal_below}
+use Rattle.wrp_town.proofs.TownLaws.{legal_below}
 use Rattle.wrp_rules.specs.Rows.{one_if, balance_row, service_row, base_rows}
 use Rattle.wrp_check.specs.declared.pool.SparseRow.{SparseRow}
-use Rattle.wrp_check.specs.Pools.{IsSmallTerm, IsRow}
+use Rattle.wrp_check.specs.Pools.{most_coefficient, AreSmallTerms, IsRow}
 use Rattle.wrp_check.specs.Sparse.{bare_row, sparse_service, IsBalanceBelow, AreBalancesBelow}
 
 -- ---- lists, one against another
@@ -44,7 +46,7 @@ balance_is_row town j row is = record {
       let below : nat_lt arc (2 * length town.streets) ≡ true = let h = legal_below town arc legal in grind (arith, nat_tests) in
       is.coef arc legal ∙ ap (λ (t : Bool). if t then (balance_row town j).coef arc else pos 0) below;
   right_side = is.right_side;
-  small = record { few = omega (arith, is.few, few_streets town); terms = is.terms; right_side = rw is.right_side (omega arith) };
+  small = is.small;
 }
 
 balances_are_rows : (town : Town) (rows : List SparseRow) → AreBalancesBelow town (2 * length town.streets) rows → AllZip (IsRow town) rows (map (balance_row town) (junctions town))
@@ -59,12 +61,7 @@ balances_are_rows town rows are =
 -- ---- service
 
 any_inside : (a : ℕ) (xs : List ℕ) → list_any (nat_eq a) xs ≡ true → Contains xs a
-any_inside a [] is = absurd (false≢true is)
-any_inside a (x ∷ xs) is = by (nat_eq a x) refl is (any_inside a xs)
-  where
-    by : (t : Bool) → nat_eq a x ≡ t → (t || list_any (nat_eq a) xs) ≡ true → (list_any (nat_eq a) xs ≡ true → Contains xs a) → Contains (x ∷ xs) a
-    by true e found rest = subst (λ y. Contains (x ∷ xs) y) (sym (eqb-true a x e)) (inside_head x xs)
-    by false e found rest = inside_tail x xs a (rest found)
+any_inside a xs found = Contains-from_any eqb-true a xs found
 
 inside_any : (a : ℕ) (xs : List ℕ) → Contains xs a → list_any (nat_eq a) xs ≡ true
 inside_any a [] (k, below, is) = absurd (omega arith)
@@ -83,33 +80,37 @@ member_count a xs distinct = by (list_any (nat_eq a) xs) refl
     by true e = ap pos (count_once a xs distinct (any_inside a xs e))
     by false e = ap pos (count_none a xs (λ inside. true≢false (sym (inside_any a xs inside) ∙ e)))
 
--- what each demand is: one or two distinct arcs
-record IsDemand (demand : List ℕ) : Type 0 where
-  few : length demand ≤ 2
-  distinct : AllPairs (λ x y. x ≢ y) demand
+-- what each demand is: ascending arcs
+abbrev IsDemand : List ℕ → Type 0
+IsDemand demand = AllPairs (λ x y. x < y) demand
 
-one_distinct : (x : ℕ) → AllPairs (λ x y. x ≢ y) (x ∷ [])
-one_distinct x i j d less below same = absurd (omega arith)
+one_arc : (x : ℕ) → IsDemand (x ∷ [])
+one_arc x i j d less below = absurd (omega arith)
 
-two_distinct : (x y : ℕ) → x ≢ y → AllPairs (λ x y. x ≢ y) (x ∷ y ∷ [])
-two_distinct x y differs zero zero d less below same = absurd (omega arith)
-two_distinct x y differs zero (suc zero) d less below same = differs same
-two_distinct x y differs zero (suc (suc j)) d less below same = absurd (omega arith)
-two_distinct x y differs (suc i) j d less below same = absurd (omega arith)
+two_arcs : (x y : ℕ) → x < y → IsDemand (x ∷ y ∷ [])
+two_arcs x y less = AllPairs-cons (λ u v. u < v) x (y ∷ []) (All-cons (λ v. x < v) y [] less (λ k d below. absurd (omega arith))) (one_arc y)
 
 each_demand : (s : ℕ) (streets : List Street) → AllByRecursion IsDemand (demands_from s streets)
 each_demand s [] = tt
 each_demand s (street ∷ streets) = by street.need (demands_from (s + 1) streets) (each_demand (s + 1) streets)
   where
-    one : (x : ℕ) → IsDemand (x ∷ [])
-    one x = record { few = omega arith; distinct = one_distinct x }
-
     by : (need : Need) (ds : List (List ℕ)) → AllByRecursion IsDemand ds → AllByRecursion IsDemand (demands_at s need ++ ds)
     by No ds rest = rest
-    by Either ds rest = (record { few = omega arith; distinct = two_distinct _ _ (λ same. omega arith) }, rest)
-    by Forward ds rest = (one _, rest)
-    by Backward ds rest = (one _, rest)
-    by Both ds rest = (one _, (one _, rest))
+    by Either ds rest = (two_arcs _ _ (omega arith), rest)
+    by Forward ds rest = (one_arc _, rest)
+    by Backward ds rest = (one_arc _, rest)
+    by Both ds rest = (one_arc _, (one_arc _, rest))
+
+-- 1 on each of these arcs, which ascend and are legal
+service_terms_small : (town : Town) (arcs : List ℕ) → IsDemand arcs → AllPass (is_legal town) arcs → AreSmallTerms (2 * length town.streets) (map (λ a. (a, pos 1)) arcs)
+service_terms_small town arcs ascending legal = record {
+  ascending = λ i j d less below.
+      let same : length (map {B = ℕ × ℤ} (λ a. (a, pos 1)) arcs) ≡ length arcs = length-map arcs (λ a. (a, pos 1)) in
+      rw (get_or-map (λ (a : ℕ). (a, pos 1)) arcs i 0 d (omega arith), get_or-map (λ (a : ℕ). (a, pos 1)) arcs j 0 d (omega arith)) (ascending i j 0 less (omega arith));
+  within = All-map (λ (t : ℕ × ℤ). t.0 < 2 * length town.streets) (λ a. (a, pos 1)) arcs
+      (All-weaker (λ a. is_legal town a ≡ true) (λ a. a < 2 * length town.streets) (λ a is. legal_below town a is) arcs legal);
+  small = All-map (λ (t : ℕ × ℤ). unsigned_abs t.1 ≤ most_coefficient) (λ a. (a, pos 1)) arcs (λ k d below. omega arith);
+}
 
 service_is_row : (town : Town) (demand : List ℕ) → IsDemand demand → IsRow town (sparse_service town demand) (service_row demand)
 service_is_row town demand is = record {
@@ -117,12 +118,10 @@ service_is_row town demand is = record {
       sum_over-map (λ (t : ℕ × ℤ). cond (t.0 == arc) t.1 (pos 0)) (λ a. (a, pos 1)) (filter (is_legal town) demand)
       ∙ sum_over-count (λ x. x == arc) (filter (is_legal town) demand)
       ∙ ap pos (count_by-filter arc (is_legal town) demand ∙ ap (λ (t : Bool). cond t (count_by (λ x. x == arc) demand) 0) legal)
-      ∙ member_count arc demand is.distinct;
+      ∙ member_count arc demand (distinct_of_ascending demand is);
   right_side = refl;
   small = record {
-    few = omega (arith, is.few, length-map {B = ℕ × ℤ} (filter (is_legal town) demand) (λ a. (a, pos 1)), length-filter (is_legal town) demand, count_by-le-length (is_legal town) demand);
-    terms = All-map (IsSmallTerm (2 * length town.streets)) (λ a. (a, pos 1)) (filter (is_legal town) demand)
-        (All-weaker (λ a. is_legal town a ≡ true) (λ a. IsSmallTerm (2 * length town.streets) (a, pos 1)) (λ a legal. (legal_below town a legal, omega arith)) (filter (is_legal town) demand) (filter_passes (is_legal town) demand));
+    terms = service_terms_small town (filter (is_legal town) demand) (AllPairs-filter (λ x y. x < y) (is_legal town) demand is) (filter_passes (is_legal town) demand);
     right_side = omega arith;
   };
 }

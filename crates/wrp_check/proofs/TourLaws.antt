@@ -2,18 +2,14 @@
 use Rattle.std.proofs.Common.{◌≡◌, ℕ, ◌+◌, ◌*◌, ◌<◌, Bool, true, false, ◌&&◌, ◌||◌, ◌==◌, List, [], ◌∷◌, length, get_or, ap, refl, sym, ◌∙◌, subst, arith}
 use Rattle.std.proofs.Math.Bool.{and-true, or-false}
 use Rattle.std.proofs.lemmas.Bool.{false≢true}
-use Rattle.std.specs.List.{list_any, list_all}
+use Rattle.std.specs.List.{list_all}
 use Rattle.wrp_town.specs.declared.street.Step.{Step}
 use Rattle.wrp_town.specs.declared.street.Need.{Need}
 use Rattle.wrp_town.specs.declared.street.Need.TheVariants.{No, Either, Forward, Backward, Both}
 use Rattle.wrp_town.specs.Streets.{demands_at}
 use Rattle.wrp_town.specs.Arcs.{arc_of}
 use Rattle.wrp_town.specs.Walks.{serves}
-use Rattle.wrp_check.specs.Marks.{MarkArcs}
-
--- a step drives the arc
-abbrev pub drives : List Step → ℕ → Bool
-drives steps arc = list_any (λ step. arc_of step == arc) steps
+use Rattle.wrp_check.specs.Marks.{drives, MarkArcs}
 
 or_swap : (a b c d : Bool) → ((a || b) || (c || d)) ≡ ((a || c) || (b || d))
 or_swap true b c d = refl

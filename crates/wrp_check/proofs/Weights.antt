@@ -1,10 +1,10 @@
--- The weighted sums of the pool's rows, pair after pair, and that they are those of the rows that it holds.
+-- The combined rows of the pool, pair after pair, and that they are those of the rows that it holds.
 use Rattle.std.proofs.Common.{◌≡◌, ℕ, zero, suc, ◌*◌, ◌^◌, ◌<◌, ◌≤◌, Bool, true, ◌&&◌, ℤ, pos, ◌*ℤ◌, List, [], ◌∷◌, length, get_or, ap, refl, sym, ◌∙◌, arith}
 use Rattle.std.specs.Prelude.{nat_lt, nat_le}
 use Rattle.std.specs.List.{All, AllZip, list_all}
 use Rattle.std.proofs.lemmas.Bool.{and_parts, ltb-true, leb-true, lt-ltb}
 use Rattle.std.proofs.lemmas.Slice.Zip.{AllZip-long}
-use Rattle.wrp_sums.specs.Sums.{sum_over}
+use Rattle.wrp_sums.specs.Duality.{combine_rows}
 use Rattle.wrp_sums.proofs.Integers.{linear}
 use Rattle.wrp_town.specs.declared.town.Town.{Town}
 use Rattle.wrp_town.specs.Arcs.{is_legal}
@@ -12,7 +12,7 @@ use Rattle.wrp_rules.specs.Rows.{Row, row_at}
 use Rattle.wrp_rules.specs.Rules.{is_from_one}
 use Rattle.wrp_check.specs.declared.pool.SparseRow.{SparseRow}
 use Rattle.wrp_check.specs.declared.pool.Pool.{Pool}
-use Rattle.wrp_check.specs.Pools.{IsSmallRow, IsRow, Holds, sparse_at, has_rows, weighted_coef, weighted_side}
+use Rattle.wrp_check.specs.Pools.{IsSmallRow, IsRow, Holds, sparse_at, has_rows, combined_coef, combined_side}
 
 -- the first pair's row is there, and those of the pairs after it
 pub first_row : (pool : Pool) (q : ℕ × ℕ) (mult : List (ℕ × ℕ)) → has_rows pool (q ∷ mult) ≡ true → (q.0 < length pool.rows) × (has_rows pool mult ≡ true)
@@ -40,29 +40,29 @@ row_of_zip town (s ∷ sparse) (r ∷ rows) (suc i) d e holds below = row_of_zip
 pub row_held : (town : Town) (pool : Pool) (rows : List Row) (i : ℕ) → Holds town pool rows → i < length pool.rows → IsRow town (sparse_at pool i) (row_at rows i)
 row_held town pool rows i holds below = row_of_zip town pool.rows rows i _ _ holds below
 
--- the sums over the pool are those over the rows
-pub weighted_coef_held : (town : Town) (pool : Pool) (rows : List Row) (mult : List (ℕ × ℕ)) (arc : ℕ) → Holds town pool rows → has_rows pool mult ≡ true → is_legal town arc ≡ true → weighted_coef pool mult arc ≡ sum_over (λ q. pos q.1 *ℤ (row_at rows q.0).coef arc) mult
-weighted_coef_held town pool rows [] arc holds are legal = refl
-weighted_coef_held town pool rows (q ∷ mult) arc holds are legal =
+-- the combined rows of the pool are those of the rows
+pub combined_coef_held : (town : Town) (pool : Pool) (rows : List Row) (mult : List (ℕ × ℕ)) (arc : ℕ) → Holds town pool rows → has_rows pool mult ≡ true → is_legal town arc ≡ true → combined_coef pool mult arc ≡ combine_rows mult (λ i. (row_at rows i).coef arc)
+combined_coef_held town pool rows [] arc holds are legal = refl
+combined_coef_held town pool rows (q ∷ mult) arc holds are legal =
     let first = first_row pool q mult are in
     let row = row_held town pool rows q.0 holds first.0 in
     omega (
       arith,
       linear,
       ap (λ (z : ℤ). pos q.1 *ℤ z) (row.coef arc legal),
-      weighted_coef_held town pool rows mult arc holds first.1 legal,
+      combined_coef_held town pool rows mult arc holds first.1 legal,
     )
 
-pub weighted_side_held : (town : Town) (pool : Pool) (rows : List Row) (mult : List (ℕ × ℕ)) → Holds town pool rows → has_rows pool mult ≡ true → weighted_side pool mult ≡ sum_over (λ q. pos q.1 *ℤ (row_at rows q.0).right_side) mult
-weighted_side_held town pool rows [] holds are = refl
-weighted_side_held town pool rows (q ∷ mult) holds are =
+pub combined_side_held : (town : Town) (pool : Pool) (rows : List Row) (mult : List (ℕ × ℕ)) → Holds town pool rows → has_rows pool mult ≡ true → combined_side pool mult ≡ combine_rows mult (λ i. (row_at rows i).right_side)
+combined_side_held town pool rows [] holds are = refl
+combined_side_held town pool rows (q ∷ mult) holds are =
     let first = first_row pool q mult are in
     let row = row_held town pool rows q.0 holds first.0 in
     omega (
       arith,
       linear,
       ap (λ (z : ℤ). pos q.1 *ℤ z) row.right_side,
-      weighted_side_held town pool rows mult holds first.1,
+      combined_side_held town pool rows mult holds first.1,
     )
 
 -- as many rows

@@ -2,6 +2,7 @@ pub mod Streams
 pub mod Verdicts
 pub mod Accepted
 pub mod Pools
+pub mod Tables
 pub mod Sparse
 pub mod Marks
 pub mod Judging

@@ -6,10 +6,10 @@ ghost use Rattle.wrp_rules.specs.declared.record.Record.TheVariants.{Tour, Bound
 ghost use Rattle.wrp_rules.specs.Nodes.{Standing, start, is_below};
 ghost use Rattle.wrp_rules.specs.Rules.{has_number_rules, int_eq};
 ghost use Rattle.wrp_rules.specs.Judged.{judged_rule};
-ghost use Rattle.wrp_check.specs.Verdicts.{judged_line, judged_end, unless};
-ghost use Rattle.wrp_check.specs.Judging.{IsReady, Stands, Judges, bound_or_rule, agrees_at};
+ghost use Rattle.wrp_check.specs.Verdicts.{judged_line, judged_end};
+ghost use Rattle.wrp_check.specs.Judging.{IsReady, Stands, record_or_rule, Judges, bound_or_rule, is_cheapest, agrees_at};
 
-use crate::bound::{Judged, judge_bound};
+use crate::bound::{BoundVerdict, judge_bound};
 use crate::pool::Pool;
 use crate::tour::broken_tour;
 use std::alloc::{AllocError, Global};
@@ -23,8 +23,8 @@ use wrp_town::Town;
 pub(crate) struct Judge {
     /// The rows of the town.
     pub(crate) pool: Pool,
-    /// For each arc its share of the rows of a bound.
-    pub(crate) shares: Vec<i128>,
+    /// For each arc its coefficient in the combined rows of a bound.
+    pub(crate) combined: Vec<i128>,
     /// For each arc whether a tour uses it.
     pub(crate) used: Vec<bool>,
     /// The bound of the root.
@@ -41,7 +41,7 @@ impl Judge {
         let arcs = 2 * town.streets.len();
         Ok(Judge {
             pool: Pool::new(alloc, town)?,
-            shares: vec![in alloc; 0i128; arcs]?,
+            combined: vec![in alloc; 0i128; arcs]?,
             used: vec![in alloc; false; arcs]?,
             bound: 0,
             upper: None,
@@ -83,7 +83,8 @@ impl Judge {
     /// The end of an end line, or the rule that the line breaks.
     pub(crate) fn end(&self, line: &[u8]) -> Result<End, Rule>
         requires { length line.now ≤ 2 ^ 28 }
-        ensures { (town : Town) (s : Standing) → Stands town s self.now → judged_end s line.now ≡ result }
+        ensures { (town : Town) (s : Standing) → Stands town s self.now
+            → judged_end s line.now ≡ result }
     {
         if is_later_end(line) {
             return Err(Rule::Later);
@@ -106,8 +107,9 @@ impl Judge {
     fn take_tour(&mut self, town: &Town, cost: u64, steps: &StepsOf<'_>) -> Option<Rule>
         requires ready { IsReady town.now self.old }
         ensures ready { IsReady town.now self.new }
-        ensures judges { (s : Standing) → Stands town.now s self.old → has_number_rules (Tour cost steps.now) ≡ true
-            → Judges town.now s (unless (judged_rule town.now s (Tour cost steps.now)) (Tour cost steps.now)) result self.new }
+        ensures judges { (s : Standing) → Stands town.now s self.old
+            → has_number_rules (Tour cost steps.now) ≡ true
+            → Judges town.now s (record_or_rule town.now s (Tour cost steps.now)) result self.new }
     {
         let broken = broken_tour(town, &mut self.used, self.upper, cost, steps);
         if broken.is_none() {
@@ -117,18 +119,26 @@ impl Judge {
     }
 
     /// Takes a bound, or says which rule it breaks.
-    fn take_bound(&mut self, town: &Town, node: u64, den: u64, mult: &PairsOf<'_>) -> Option<Rule>
+    fn take_bound(
+        &mut self,
+        town: &Town,
+        node: u64,
+        denominator: u64,
+        multipliers: &PairsOf<'_>,
+    ) -> Option<Rule>
         requires ready { IsReady town.now self.old }
-        requires numbers { has_number_rules (Bound node den mult.now) ≡ true }
+        requires numbers { has_number_rules (Bound node denominator multipliers.now) ≡ true }
         ensures ready { IsReady town.now self.new }
         ensures judges { (s : Standing) → Stands town.now s self.old
-            → Judges town.now s (unless (judged_rule town.now s (Bound node den mult.now)) (Bound node den mult.now)) result self.new }
+            → Judges town.now s
+            (record_or_rule town.now s (Bound node denominator multipliers.now)) result self.new }
     {
         if node != 0 {
             return Some(Rule::Range);
         }
-        let judged = judge_bound(town, &self.pool, &mut self.shares, den, mult.again());
-        match better_bound(judged, self.bound, self.upper) {
+        let table = &mut self.combined;
+        let verdict = judge_bound(town, &self.pool, table, denominator, multipliers.again());
+        match better_bound(verdict, self.bound, self.upper) {
             Ok(value) => {
                 self.bound = value;
                 None
@@ -139,15 +149,15 @@ impl Judge {
 }
 
 /// The new bound of the root, or the first rule that it breaks, beside the number of the node.
-fn better_bound(judged: Judged, bound: i128, upper: Option<u64>) -> Result<i128, Rule>
-    ensures { result ≡ bound_or_rule judged bound upper }
+fn better_bound(verdict: BoundVerdict, bound: i128, upper: Option<u64>) -> Result<i128, Rule>
+    ensures { result ≡ bound_or_rule verdict bound upper }
 {
-    match judged {
-        Judged::Missing => Err(Rule::Range),
+    match verdict {
+        BoundVerdict::Missing => Err(Rule::Range),
         _ if !is_open(bound, upper) => Err(Rule::Closed),
-        Judged::Negative => Err(Rule::Later),
-        Judged::Bound(value) if value <= bound => Err(Rule::Low),
-        Judged::Bound(value) => Ok(value),
+        BoundVerdict::Negative => Err(Rule::Later),
+        BoundVerdict::Bound(value) if value <= bound => Err(Rule::Low),
+        BoundVerdict::Bound(value) => Ok(value),
     }
 }
 
@@ -163,7 +173,7 @@ fn is_open(bound: i128, upper: Option<u64>) -> bool
 
 /// Whether the cheapest tour has this cost.
 fn is_cheapest(upper: Option<u64>, cost: u64) -> bool
-    ensures { result ≡ option_map_or (λ least. least == cost) upper false }
+    ensures { result ≡ is_cheapest upper cost }
 {
     match upper {
         Some(least) => least == cost,

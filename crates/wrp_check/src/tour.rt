@@ -1,5 +1,5 @@
-//! What the checker says of a tour: whether it keeps the rules of a tour, each tried by passes over its
-//! steps. Nothing here takes memory: the marks of the arcs belong to the caller.
+//! What the checker says of a tour: whether it keeps the rules of a tour, each tried by passes over
+//! its steps. The marks of the arcs belong to the caller.
 ghost use Rattle.std.specs.Prelude.{◌≡◌, ℕ, ◌+◌, ◌*◌, ◌<◌, ◌==◌, nat_lt, true, false, pos, List, length, EachIndex, slice_index_or};
 ghost use Rattle.std.specs.List.{list_all};
 ghost use Rattle.wrp_town.specs.declared.street.Step.{Step};
@@ -8,13 +8,13 @@ ghost use Rattle.wrp_town.specs.Walks.{leads, is_closed_walk, serves, serves_all
 ghost use Rattle.wrp_rules.specs.declared.record.Record.TheVariants.{Tour};
 ghost use Rattle.wrp_rules.specs.Nodes.{Standing, is_below};
 ghost use Rattle.wrp_rules.specs.Rules.{rules_of, first_broken};
-ghost use Rattle.wrp_check.specs.Marks.{MarkArcs};
+ghost use Rattle.wrp_check.specs.Marks.{are_in_range, MarkArcs};
 
 use wrp_proof::{Rule, StepsOf};
 use wrp_town::{Need, Town};
 
-/// The first rule that a tour breaks, where `upper` is the cost of the cheapest tour so far. `used` has
-/// room for a mark of each arc of the town; what stands in it makes no difference.
+/// The first rule that a tour breaks, where `upper` is the cost of the cheapest tour so far. What
+/// stands in `used` makes no difference.
 pub(crate) fn broken_tour(
     town: &Town,
     used: &mut [bool],
@@ -23,7 +23,8 @@ pub(crate) fn broken_tour(
     steps: &StepsOf<'_>,
 ) -> Option<Rule>
     requires { length used.old ≡ 2 * length town.now.streets }
-    ensures { (s : Standing) → s.upper ≡ upper → result ≡ first_broken (rules_of town.now s (Tour cost steps.now)) }
+    ensures { (s : Standing) → s.upper ≡ upper
+        → result ≡ first_broken (rules_of town.now s (Tour cost steps.now)) }
 {
     if !in_range(town, steps) {
         Some(Rule::Range)
@@ -42,10 +43,10 @@ pub(crate) fn broken_tour(
 
 /// Whether each step names a street of the town.
 fn in_range(town: &Town, steps: &StepsOf<'_>) -> bool
-    ensures { result ≡ list_all (λ step. nat_lt step.street (length town.now.streets)) steps.now }
+    ensures { result ≡ are_in_range town.now steps.now }
 {
-    let mut left = steps.again();
-    while let Some(step) = left.next() {
+    let mut ahead = steps.again();
+    while let Some(step) = ahead.next() {
         if step.street as usize >= town.streets.len() {
             return false;
         }
@@ -74,9 +75,9 @@ fn is_closed(town: &Town, steps: &StepsOf<'_>) -> bool
 fn lead(town: &Town, from: u32, steps: &StepsOf<'_>, to: u32) -> bool
     ensures { result ≡ leads town.now from steps.now to }
 {
-    let mut left = steps.again();
+    let mut ahead = steps.again();
     let mut at = from;
-    while let Some(step) = left.next() {
+    while let Some(step) = ahead.next() {
         match town.follow(at, step) {
             Some(end) => at = end,
             None => return false,
@@ -85,10 +86,10 @@ fn lead(town: &Town, from: u32, steps: &StepsOf<'_>, to: u32) -> bool
     at == to
 }
 
-/// Whether the steps serve every demand of the town. It leaves a mark at each arc that a step drives.
+/// Whether the steps serve every demand of the town.
 fn serves_each(town: &Town, used: &mut [bool], steps: &StepsOf<'_>) -> bool
     requires room { length used.old ≡ 2 * length town.now.streets }
-    requires in_range { list_all (λ step. nat_lt step.street (length town.now.streets)) steps.now ≡ true }
+    requires in_range { are_in_range town.now steps.now ≡ true }
     ensures { result ≡ serves_all town.now steps.now }
 {
     mark_arcs(town, used, steps);
@@ -98,12 +99,12 @@ fn serves_each(town: &Town, used: &mut [bool], steps: &StepsOf<'_>) -> bool
 /// Marks the arcs that the steps drive, and no others.
 fn mark_arcs(town: &Town, used: &mut [bool], steps: &StepsOf<'_>)
     requires room { length used.old ≡ 2 * length town.now.streets }
-    requires in_range { list_all (λ step. nat_lt step.street (length town.now.streets)) steps.now ≡ true }
+    requires in_range { are_in_range town.now steps.now ≡ true }
     ensures { MarkArcs used.new steps.now }
 {
     clear(used);
-    let mut left = steps.again();
-    while let Some(step) = left.next() {
+    let mut ahead = steps.again();
+    while let Some(step) = ahead.next() {
         used[step.arc() as usize] = true;
     }
 }
@@ -133,7 +134,8 @@ fn are_served(town: &Town, used: &[bool]) -> bool
 /// Whether the steps that the marks stand for serve each demand of a street.
 fn is_street_served(used: &[bool], street: usize, need: Need) -> bool
     requires { 2 * street + 1 < length used.now }
-    ensures { (steps : List Step) → MarkArcs used.now steps → result ≡ list_all (serves steps) (demands_at street need) }
+    ensures { (steps : List Step) → MarkArcs used.now steps
+        → result ≡ list_all (serves steps) (demands_at street need) }
 {
     let forward = used[2 * street];
     let backward = used[2 * street + 1];
@@ -150,9 +152,9 @@ fn is_street_served(used: &[bool], street: usize, need: Need) -> bool
 fn has_cost(town: &Town, cost: u64, steps: &StepsOf<'_>) -> bool
     ensures { result ≡ (walk_cost town.now steps.now == cost) }
 {
-    let mut left = steps.again();
+    let mut ahead = steps.again();
     let mut rest = cost;
-    while let Some(step) = left.next() {
+    while let Some(step) = ahead.next() {
         match rest.checked_sub(u64::from(town.step_cost(step).unwrap_or(0))) {
             Some(less) => rest = less,
             None => return false,

@@ -1,4 +1,5 @@
-//! Whole numbers of 128 bits: quotients rounded up, greatest common divisors, and products within a limit.
+//! Whole numbers of 128 bits: quotients rounded up, greatest common divisors, and products within
+//! a limit.
 //!
 //! No function here takes memory.
 #![tactic(auto)]

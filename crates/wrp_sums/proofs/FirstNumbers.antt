@@ -61,16 +61,6 @@ inside_filter p (y ∷ xs) x (suc k, below, is) passes =
 pub passes_of_inside : (p : ℕ → Bool) (xs : List ℕ) (x : ℕ) → Contains (filter p xs) x → p x ≡ true
 passes_of_inside p xs x inside = All-contains (λ y. p y ≡ true) (filter p xs) x (filter_passes p xs) inside
 
--- and was a member before
-pub inside_of_filter : (p : ℕ → Bool) (xs : List ℕ) (x : ℕ) → Contains (filter p xs) x → Contains xs x
-inside_of_filter p [] x inside = inside
-inside_of_filter p (y ∷ xs) x inside = by (p y) (inside_of_filter p xs x) inside
-  where
-    by : (t : Bool) → (Contains (filter p xs) x → Contains xs x) → Contains (cond t (y ∷ filter p xs) (filter p xs)) x → Contains (y ∷ xs) x
-    by true rest (zero, below, is) = (0, omega arith, is)
-    by true rest (suc k, below, is) = inside_tail y xs x (rest (k, omega arith, is))
-    by false rest within = inside_tail y xs x (rest within)
-
 -- the numbers below n that pass a test stand once each
 pub once_below : (p : ℕ → Bool) (n a : ℕ) → a < n → p a ≡ true → count_by (λ x. x == a) (filter p (numbers_below n)) ≡ 1
 once_below p n a below passes =

@@ -4,7 +4,7 @@
 --     casts       these, and numbers that went to bits and are read again
 --     tests       these, and the tests of an `if`
 --     spread      for `simp`: multiplies out
-use Rattle.std.proofs.Common.{◌≡◌, ℕ, ◌+◌, ◌*◌, ◌≤◌, ◌<◌, ℤ, pos, negsuc, ◌+ℤ◌, ◌-ℤ◌, ◌*ℤ◌, neg_ℤ, ◌≤ℤ◌, unsigned_abs, ap, refl, sym, ◌∙◌, arith, mul-le-mul_left, mul-le-mul}
+use Rattle.std.proofs.Common.{◌≡◌, ℕ, ◌+◌, ◌*◌, ◌≤◌, ◌<◌, ℤ, pos, negsuc, ◌+ℤ◌, ◌*ℤ◌, neg_ℤ, ◌≤ℤ◌, unsigned_abs, ap, sym, ◌∙◌, arith, mul-le-mul_left, mul-le-mul}
 use Rattle.std.proofs.Math.Nat.{le_of_mul-le-mul_left}
 use Rattle.std.proofs.lemmas.Int.{ints, unsigned_abs-mul}
 use Rattle.std.proofs.Math.IntN.{*ℤ_comm}
@@ -40,9 +40,6 @@ pub *ℤ-neg_ℤ : (a b : ℤ) → a *ℤ neg_ℤ b ≡ neg_ℤ (a *ℤ b)
 pub neg_ℤ-*ℤ : (a b : ℤ) → neg_ℤ a *ℤ b ≡ neg_ℤ (a *ℤ b)
 neg_ℤ-*ℤ a b = omega (arith, linear, *ℤ_comm (neg_ℤ a) b, *ℤ_comm a b, *ℤ-neg_ℤ b a)
 
-pub *ℤ_minus : (a b c : ℤ) → a *ℤ (b -ℤ c) ≡ a *ℤ b -ℤ a *ℤ c
-*ℤ_minus a b c = omega (arith, linear, *ℤ-+ℤ a b (neg_ℤ c), *ℤ-neg_ℤ a c)
-
 pub *ℤ_assoc : (a b c : ℤ) → (a *ℤ b) *ℤ c ≡ a *ℤ (b *ℤ c)
 *ℤ_assoc a b c =
     omega (
@@ -72,9 +69,6 @@ zero_times a = omega (arith, ints)
 pub times_zero : (a : ℤ) → a *ℤ pos 0 ≡ pos 0
 times_zero a = omega (arith, ints)
 
-pub pos-* : (m n : ℕ) → pos (m * n) ≡ pos m *ℤ pos n
-pos-* m n = refl
-
 pub ruleset spread = (*ℤ-+ℤ, +ℤ-*ℤ, *ℤ-neg_ℤ, neg_ℤ-*ℤ)
 
 -- ---- order
@@ -87,12 +81,6 @@ at_most_trans a b c h k = omega (arith, linear)
 
 pub at_most_antisym : (a b : ℤ) → a ≤ℤ b → b ≤ℤ a → a ≡ b
 at_most_antisym a b h k = omega (arith, linear)
-
-pub pos-≤ℤ : (m n : ℕ) → m ≤ n → pos m ≤ℤ pos n
-pos-≤ℤ m n h = omega (arith, linear)
-
-pub ≤-from_pos : (m n : ℕ) → pos m ≤ℤ pos n → m ≤ n
-≤-from_pos m n h = omega (arith, linear)
 
 -- an order, scaled
 pub scale_le : (n : ℕ) (b c : ℤ) → b ≤ℤ c → (pos n *ℤ b) ≤ℤ (pos n *ℤ c)
@@ -112,10 +100,6 @@ scale_ge_by a b c s h =
 -- a positive factor, cancelled
 pub cancel_le : (n : ℕ) (a b : ℤ) → 0 < n → (pos n *ℤ a) ≤ℤ (pos n *ℤ b) → a ≤ℤ b
 cancel_le n a b p h = at_most_in a b (le_of_mul-le-mul_left {k = n} (omega (arith, ints)) p)
-
-pub cancel_same : (n : ℕ) (a b : ℤ) → 0 < n → pos n *ℤ a ≡ pos n *ℤ b → a ≡ b
-cancel_same n a b p e =
-    at_most_antisym a b (cancel_le n a b p (omega (arith, linear))) (cancel_le n b a p (omega (arith, linear)))
 
 -- ---- sizes
 

@@ -2,7 +2,7 @@
 use Rattle.std.proofs.Common.{◌≡◌, ℕ, suc, ◌/◌, ◌<◌, ℤ, pos, negsuc, ◌+ℤ◌, ◌*ℤ◌, ◌≤ℤ◌, ◌<ℤ◌, arith}
 use Rattle.std.proofs.lemmas.Int.{ints, by_lt_z}
 use Rattle.wrp_sums.specs.Rounding.{ceil_div, IsCeilDiv}
-use Rattle.wrp_sums.proofs.Integers.{linear, *ℤ-neg_ℤ, *ℤ-+ℤ, scale_le, at_most_antisym, at_most_trans}
+use Rattle.wrp_sums.proofs.Integers.{linear, *ℤ-neg_ℤ, *ℤ-+ℤ, *ℤ_left_comm, scale_le, cancel_le, at_most_antisym, at_most_trans}
 
 -- q times b is the first multiple of b that reaches a: b q - b < a ≤ b q
 pub record Brackets (a : ℤ) (b : ℕ) (q : ℤ) : Type 0 where
@@ -47,3 +47,11 @@ IsCeilDiv_monotone a c b q r h s t = s.least r (at_most_trans a c (pos b *ℤ r)
 pub ceil_div-≤ℤ : (a c : ℤ) (b : ℕ) → 0 < b → a ≤ℤ c → ceil_div a b ≤ℤ ceil_div c b
 ceil_div-≤ℤ a c b p h =
     IsCeilDiv_monotone a c b (ceil_div a b) (ceil_div c b) h (IsCeilDiv-ceil_div a b p) (IsCeilDiv-ceil_div c b p)
+
+-- v / d is at most c / e, and so are the quotients
+pub ceil_div_of_fractions : (v c : ℤ) (d e : ℕ) → 0 < d → 0 < e → (pos e *ℤ v) ≤ℤ (pos d *ℤ c) → ceil_div v d ≤ℤ ceil_div c e
+ceil_div_of_fractions v c d e some_d some_e h =
+    let q = ceil_div c e in
+    (IsCeilDiv-ceil_div v d some_d).least q
+    (cancel_le e v (pos d *ℤ q) some_e
+    (omega (arith, linear, *ℤ_left_comm (pos e) (pos d) q, scale_le d c (pos e *ℤ q) (IsCeilDiv-ceil_div c e some_e).covers)))

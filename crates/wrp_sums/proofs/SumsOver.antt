@@ -1,9 +1,10 @@
 -- Laws of `sum_over`. A premise on the members alone is `(x : X) → Contains xs x → ..`, at a call `λ x inside. ..`; from an `All P xs` it is `λ x inside. All-contains P xs x all inside`.
-use Rattle.std.proofs.Common.{◌≡◌, ℕ, zero, suc, ◌+◌, ◌*◌, ◌≤◌, ◌<◌, Bool, true, false, cond, ◌==◌, ◌≢◌, AllPairs, ℤ, pos, ◌+ℤ◌, ◌-ℤ◌, ◌*ℤ◌, neg_ℤ, ◌≤ℤ◌, unsigned_abs, List, [], ◌∷◌, ◌++◌, map, length, get_or, take, drop, filter, Contains, sum_by, count_by, ap, refl, sym, ◌∙◌, subst, arith, eq-eqb, take-append-drop}
-use Rattle.std.specs.List.{AllByRecursion}
+use Rattle.std.proofs.Common.{◌≡◌, ℕ, zero, suc, ◌+◌, ◌*◌, ◌≤◌, ◌<◌, Bool, true, false, cond, ◌&&◌, ◌==◌, ◌≢◌, AllPairs, ℤ, pos, ◌+ℤ◌, ◌*ℤ◌, ◌≤ℤ◌, unsigned_abs, List, [], ◌∷◌, ◌++◌, map, length, get_or, take, filter, Contains, sum_by, count_by, ap, refl, sym, ◌∙◌, arith, eq-eqb}
 use Rattle.std.proofs.lemmas.Bool.{eqb-true, eqb-false, ne_eqb, false_from_ne_true, true≢false}
+use Rattle.std.specs.List.{list_all}
 use Rattle.std.proofs.lemmas.List.{take_more}
-use Rattle.std.proofs.lemmas.List.Sums.{sum_by-cons}
+use Rattle.std.proofs.lemmas.List.Elements.{All-contains}
+use Rattle.std.proofs.lemmas.List.Sums.{sum_by-cons, AllPass-from_list_all}
 use Rattle.std.proofs.lemmas.Int.{ints}
 use Rattle.wrp_sums.specs.Sums.{sum_over}
 use Rattle.wrp_sums.proofs.Integers.{linear, sized, *ℤ-+ℤ, +ℤ-*ℤ}
@@ -20,10 +21,17 @@ inside_tail x xs y (k, below, is) = (suc k, omega arith, is)
 pub for_tail : {X : Type 0} (P : X → Type 0) (x : X) (xs : List X) → ((y : X) → Contains (x ∷ xs) y → P y) → (y : X) → Contains xs y → P y
 for_tail P x xs all y inside = all y (inside_tail x xs y inside)
 
-pub for_members : {X : Type 0} (P : X → Type 0) (xs : List X) → AllByRecursion P xs → (y : X) → Contains xs y → P y
-for_members P [] all y (k, below, is) = absurd (omega arith)
-for_members P (x ∷ xs) (here, there) y (zero, below, is) = subst P is here
-for_members P (x ∷ xs) (here, there) y (suc k, below, is) = for_members P xs there y (k, omega arith, is)
+-- a test that each member passes
+pub passes_inside : {X : Type 0} (p : X → Bool) (xs : List X) → list_all p xs ≡ true → (x : X) → Contains xs x → p x ≡ true
+passes_inside p xs all x inside = All-contains (λ y. p y ≡ true) xs x (AllPass-from_list_all p xs all) inside
+
+-- two tests that agree at each member
+pub list_all-same : {X : Type 0} (p q : X → Bool) (xs : List X) → ((x : X) → Contains xs x → p x ≡ q x) → list_all p xs ≡ list_all q xs
+list_all-same p q [] same = refl
+list_all-same p q (x ∷ xs) same =
+    let first : p x ≡ q x = same x (inside_head x xs) in
+    let rest : list_all p xs ≡ list_all q xs = list_all-same p q xs (λ y inside. same y (inside_tail x xs y inside)) in
+    ap (λ (t : Bool). t && list_all p xs) first ∙ ap (λ (t : Bool). q x && t) rest
 
 -- ---- laws of sums
 
@@ -40,14 +48,6 @@ module _ {X : Type 0} where
   pub sum_over-*ℤ_right : (f : X → ℤ) (a : ℤ) (xs : List X) → sum_over (λ x. f x *ℤ a) xs ≡ sum_over f xs *ℤ a
   sum_over-*ℤ_right f a [] = omega (arith, ints)
   sum_over-*ℤ_right f a (x ∷ xs) = omega (arith, linear, sum_over-*ℤ_right f a xs, +ℤ-*ℤ (f x) (sum_over f xs) a)
-
-  pub sum_over-neg_ℤ : (f : X → ℤ) (xs : List X) → sum_over (λ x. neg_ℤ (f x)) xs ≡ neg_ℤ (sum_over f xs)
-  sum_over-neg_ℤ f [] = refl
-  sum_over-neg_ℤ f (x ∷ xs) = omega (arith, linear, sum_over-neg_ℤ f xs)
-
-  pub sum_over_minus : (f g : X → ℤ) (xs : List X) → sum_over (λ x. f x -ℤ g x) xs ≡ sum_over f xs -ℤ sum_over g xs
-  sum_over_minus f g [] = refl
-  sum_over_minus f g (x ∷ xs) = omega (arith, linear, sum_over_minus f g xs)
 
   pub sum_over-zero : (xs : List X) → sum_over (λ x. pos 0) xs ≡ pos 0
   sum_over-zero [] = refl
@@ -86,24 +86,12 @@ module _ {X : Type 0} where
   pub sum_over_more : (f : X → ℤ) (xs : List X) (i : ℕ) (d : X) → i < length xs → sum_over f (take (i + 1) xs) ≡ sum_over f (take i xs) +ℤ f (get_or xs i d)
   sum_over_more f xs i d below = ap (sum_over f) (take_more xs i d below) ∙ sum_over-push f (take i xs) (get_or xs i d)
 
-  pub sum_over-take-drop : (f : X → ℤ) (xs : List X) (i : ℕ) → sum_over f (take i xs) +ℤ sum_over f (drop i xs) ≡ sum_over f xs
-  sum_over-take-drop f xs i = sym (sum_over-append f (take i xs) (drop i xs)) ∙ ap (sum_over f) (take-append-drop i xs)
-
   -- a sum over the members that pass a test
   pub sum_over-filter : (f : X → ℤ) (p : X → Bool) (xs : List X) → sum_over f (filter p xs) ≡ sum_over (λ x. cond (p x) (f x) (pos 0)) xs
   sum_over-filter f p [] = refl
   sum_over-filter f p (x ∷ xs) = by (sum_over-filter f p xs) (p x)
     where
       by : sum_over f (filter p xs) ≡ sum_over (λ y. cond (p y) (f y) (pos 0)) xs → (t : Bool) → sum_over f (cond t (x ∷ filter p xs) (filter p xs)) ≡ cond t (f x) (pos 0) +ℤ sum_over (λ y. cond (p y) (f y) (pos 0)) xs
-      by rest true = omega (arith, linear)
-      by rest false = omega (arith, linear)
-
-  -- a sum is that of the members that pass a test and that of the others
-  pub sum_over-split : (f : X → ℤ) (p : X → Bool) (xs : List X) → sum_over f xs ≡ sum_over (λ x. cond (p x) (f x) (pos 0)) xs +ℤ sum_over (λ x. cond (p x) (pos 0) (f x)) xs
-  sum_over-split f p [] = refl
-  sum_over-split f p (x ∷ xs) = by (sum_over-split f p xs) (p x)
-    where
-      by : sum_over f xs ≡ sum_over (λ y. cond (p y) (f y) (pos 0)) xs +ℤ sum_over (λ y. cond (p y) (pos 0) (f y)) xs → (t : Bool) → f x +ℤ sum_over f xs ≡ (cond t (f x) (pos 0) +ℤ sum_over (λ y. cond (p y) (f y) (pos 0)) xs) +ℤ (cond t (pos 0) (f x) +ℤ sum_over (λ y. cond (p y) (pos 0) (f y)) xs)
       by rest true = omega (arith, linear)
       by rest false = omega (arith, linear)
 

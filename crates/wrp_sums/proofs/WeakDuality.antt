@@ -1,10 +1,11 @@
 -- Weak duality: the value of multipliers is at most the cost of each solution.
-use Rattle.std.proofs.Common.{◌≡◌, ℕ, ◌*◌, ◌≤◌, ◌<◌, Bool, true, false, cond, ℤ, pos, ◌+ℤ◌, ◌-ℤ◌, ◌*ℤ◌, neg_ℤ, ◌≤ℤ◌, ◌<ℤ◌, int_lt, List, Contains, ap, refl, sym, ◌∙◌, arith, zero-mul}
+use Rattle.std.proofs.Common.{◌≡◌, ℕ, ◌*◌, ◌≤◌, ◌<◌, Bool, true, false, cond, ℤ, pos, ◌+ℤ◌, ◌-ℤ◌, ◌*ℤ◌, neg_ℤ, ◌≤ℤ◌, ◌<ℤ◌, int_lt, int_le, List, Contains, ap, refl, sym, ◌∙◌, arith, zero-mul}
+use Rattle.std.proofs.lemmas.Bool.{false_from_ne_true}
 use Rattle.std.proofs.lemmas.Int.{ints}
 use Rattle.wrp_sums.specs.Sums.{sum_over}
 use Rattle.wrp_sums.specs.Rounding.{ceil_div}
 use Rattle.wrp_sums.specs.Duality.{Program, IsSolution, least_term, reduced_cost, dual_value, row_sum, cost_sum}
-use Rattle.wrp_sums.proofs.Integers.{linear, *ℤ-+ℤ, +ℤ-*ℤ, neg_ℤ-*ℤ, *ℤ_assoc, *ℤ_left_comm, scale_le, scale_le_by, scale_ge_by, lt-true, lt-false}
+use Rattle.wrp_sums.proofs.Integers.{linear, tests, *ℤ-+ℤ, +ℤ-*ℤ, neg_ℤ-*ℤ, *ℤ_assoc, *ℤ_left_comm, scale_le, scale_le_by, scale_ge_by, lt-true, lt-false}
 use Rattle.wrp_sums.proofs.SumsOver.{sum_over-+ℤ, sum_over-*ℤ, sum_over-*ℤ_right, sum_over-ext, sum_over-≤ℤ, sum_over_exchange, sum_over-all_zero}
 use Rattle.wrp_sums.proofs.RoundedUp.{IsCeilDiv-ceil_div}
 
@@ -27,6 +28,12 @@ least_term-≤ℤ z lo hi e x low high = by (int_lt z (pos 0)) refl
           *ℤ_left_comm (pos e) z (pos lo),
           scale_le_by z (pos e *ℤ pos lo) (pos x) (omega (arith, linear, lt-false)) (omega (arith, ints)),
         )
+
+-- where z isn't negative, it is that at lo
+pub least_term_at_lo : (z : ℤ) (lo hi : ℕ) → int_le (pos 0) z ≡ true → least_term z lo hi ≡ z *ℤ pos lo
+least_term_at_lo z lo hi positive =
+    let test : int_lt z (pos 0) ≡ false = false_from_ne_true (int_lt z (pos 0)) (λ negative. omega (arith, tests)) in
+    ap (λ (t : Bool). z *ℤ pos (cond t hi lo)) test
 
 module _ (p : Program) (d e : ℕ) (mult : List (ℕ × ℕ)) (x : ℕ → ℕ) where
   -- the sums that the proof goes through

@@ -17,36 +17,42 @@ pub fn product_laws()
     ensures cancels { (n : ℕ) (a b : ℤ) → 0 < n → (pos n *ℤ a) ≤ℤ (pos n *ℤ b) → a ≤ℤ b }
 {}
 
-/// Sums over a list of any elements: of a sum, scaled, with the same or greater terms at each member, over two lists
-/// in a row, and with one element more.
+/// Sums over a list of any elements: of a sum, scaled, with the same or greater terms at each
+/// member, over two lists in a row, and with one element more.
 pub fn sum_laws<T>()
-    ensures adds { (f g : T → ℤ) (xs : List T) → sum_over (λ x. f x +ℤ g x) xs ≡ sum_over f xs +ℤ sum_over g xs }
-    ensures scales { (a : ℤ) (f : T → ℤ) (xs : List T) → sum_over (λ x. a *ℤ f x) xs ≡ a *ℤ sum_over f xs }
+    ensures adds { (f g : T → ℤ) (xs : List T)
+        → sum_over (λ x. f x +ℤ g x) xs ≡ sum_over f xs +ℤ sum_over g xs }
+    ensures scales { (a : ℤ) (f : T → ℤ) (xs : List T)
+        → sum_over (λ x. a *ℤ f x) xs ≡ a *ℤ sum_over f xs }
     ensures zero { (xs : List T) → sum_over (λ x. pos 0) xs ≡ pos 0 }
     ensures same { (f g : T → ℤ) (xs : List T) → ((x : T) → Contains xs x → f x ≡ g x)
         → sum_over f xs ≡ sum_over g xs }
     ensures grows { (f g : T → ℤ) (xs : List T) → ((x : T) → Contains xs x → f x ≤ℤ g x)
         → sum_over f xs ≤ℤ sum_over g xs }
-    ensures append { (f : T → ℤ) (xs ys : List T) → sum_over f (xs ++ ys) ≡ sum_over f xs +ℤ sum_over f ys }
+    ensures append { (f : T → ℤ) (xs ys : List T)
+        → sum_over f (xs ++ ys) ≡ sum_over f xs +ℤ sum_over f ys }
     ensures one_more { (f : T → ℤ) (xs : List T) (i : ℕ) (d : T) → i < length xs
         → sum_over f (take (i + 1) xs) ≡ sum_over f (take i xs) +ℤ f (get_or xs i d) }
 {}
 
-/// Sums over a list that go over to another sum: of the elements that pass a test, of numbers that are not negative,
-/// and a count.
+/// Sums over a list that go over to another sum: of the elements that pass a test, of numbers that
+/// are not negative, and a count.
 pub fn choice_laws<T>()
     ensures filters { (f : T → ℤ) (p : T → Bool) (xs : List T)
         → sum_over f (filter p xs) ≡ sum_over (λ x. cond (p x) (f x) (pos 0)) xs }
-    ensures naturals { (f : T → ℕ) (xs : List T) → sum_over (λ x. pos (f x)) xs ≡ pos (sum_by f xs) }
+    ensures naturals { (f : T → ℕ) (xs : List T)
+        → sum_over (λ x. pos (f x)) xs ≡ pos (sum_by f xs) }
     ensures counts { (p : T → Bool) (xs : List T)
         → sum_over (λ x. cond (p x) (pos 1) (pos 0)) xs ≡ pos (count_by p xs) }
 {}
 
 /// Sums over two lists: through a function, and two sums exchanged.
 pub fn exchange_laws<S, T>()
-    ensures maps { (f : T → ℤ) (g : S → T) (xs : List S) → sum_over f (map g xs) ≡ sum_over (λ x. f (g x)) xs }
+    ensures maps { (f : T → ℤ) (g : S → T) (xs : List S)
+        → sum_over f (map g xs) ≡ sum_over (λ x. f (g x)) xs }
     ensures exchanges { (f : S → T → ℤ) (xs : List S) (ys : List T)
-        → sum_over (λ x. sum_over (λ y. f x y) ys) xs ≡ sum_over (λ y. sum_over (λ x. f x y) xs) ys }
+        → sum_over (λ x. sum_over (λ y. f x y) ys) xs
+        ≡ sum_over (λ y. sum_over (λ x. f x y) xs) ys }
 {}
 
 /// The term at one number of a list of distinct numbers.
@@ -67,7 +73,8 @@ pub fn first_numbers_laws()
         ≡ sum_over f (filter p (numbers_below i)) +ℤ cond (p i) (f i) (pos 0) }
 {}
 
-/// Sparse rows: the sum over numbers, among which each number of the row stands once, is the sum over the row's terms.
+/// Sparse rows: the sum over numbers, among which each number of the row stands once, is the sum
+/// over the row's terms.
 pub fn sparse_laws()
     ensures sums { (terms : List (ℕ × ℤ)) (x : ℕ → ℤ) (numbers : List ℕ)
         → ((t : ℕ × ℤ) → Contains terms t → count_by (λ a. a == t.0) numbers ≡ 1)
@@ -78,22 +85,26 @@ pub fn sparse_laws()
         +ℤ cond ((get_or terms j d).0 == a) (get_or terms j d).1 (pos 0) }
 {}
 
-/// Quotients that are rounded up: `ceil_div` is the only one, and it grows with the dividend.
+/// Quotients that are rounded up: `ceil_div` is the only one, and it grows with the fraction.
 pub fn rounding_laws()
     ensures rounds_up { (a : ℤ) (b : ℕ) → 0 < b → IsCeilDiv a b (ceil_div a b) }
     ensures unique { (a : ℤ) (b : ℕ) (q r : ℤ) → IsCeilDiv a b q → IsCeilDiv a b r → q ≡ r }
     ensures grows { (a c : ℤ) (b : ℕ) → 0 < b → a ≤ℤ c → ceil_div a b ≤ℤ ceil_div c b }
+    ensures fractions { (v c : ℤ) (d e : ℕ) → 0 < d → 0 < e → (pos e *ℤ v) ≤ℤ (pos d *ℤ c)
+        → ceil_div v d ≤ℤ ceil_div c e }
 {}
 
 /// Weak duality: multipliers of the rows bound the cost of each solution from below.
 pub fn duality_laws()
-    ensures scaled { (p : Program) (d e : ℕ) (mult : List (ℕ × ℕ)) (x : ℕ → ℕ) → IsSolution p e mult x
-        → (pos e *ℤ dual_value p d mult) ≤ℤ (pos d *ℤ cost_sum p x) }
-    ensures whole { (p : Program) (d : ℕ) (mult : List (ℕ × ℕ)) (x : ℕ → ℕ) → 0 < d → IsSolution p 1 mult x
-        → ceil_div (dual_value p d mult) d ≤ℤ cost_sum p x }
-    ensures none { (p : Program) (e : ℕ) (mult : List (ℕ × ℕ)) (x : ℕ → ℕ) → 0 < e
-        → ((a : ℕ) → Contains p.arcs a → p.cost a ≡ 0) → pos 0 <ℤ dual_value p 1 mult
-        → IsSolution p e mult x → ⊥ }
+    ensures scaled { (p : Program) (d e : ℕ) (multipliers : List (ℕ × ℕ)) (x : ℕ → ℕ)
+        → IsSolution p e multipliers x
+        → (pos e *ℤ dual_value p d multipliers) ≤ℤ (pos d *ℤ cost_sum p x) }
+    ensures whole { (p : Program) (d : ℕ) (multipliers : List (ℕ × ℕ)) (x : ℕ → ℕ)
+        → 0 < d → IsSolution p 1 multipliers x
+        → ceil_div (dual_value p d multipliers) d ≤ℤ cost_sum p x }
+    ensures none { (p : Program) (e : ℕ) (multipliers : List (ℕ × ℕ)) (x : ℕ → ℕ)
+        → 0 < e → ((a : ℕ) → Contains p.arcs a → p.cost a ≡ 0)
+        → pos 0 <ℤ dual_value p 1 multipliers → IsSolution p e multipliers x → ⊥ }
 {}
 
 #[cfg(test)]

@@ -7,6 +7,6 @@ returns c =
     on_ok_weaker c.push_term-2.result
     (λ second.
     balances_step c.args.town.now c.args.arc c.tail-tail.result c.head-head.result c.args.rows.now c.push_term.new.rows c.push_term-2.new.rows
-    c.requires.below c.requires.before c.tail-tail.ensures.value c.head-head.ensures.value c.tail-tail.ensures.junction c.head-head.ensures.junction
+    c.requires.before c.tail-tail.ensures.value c.head-head.ensures.value c.if-tail-head.false c.tail-tail.ensures.junction c.head-head.ensures.junction
     c.in_ok-push_term.ensures second c.push_term.auto.rows c.push_term-2.auto.rows)
     c.push_term-2.ensures
