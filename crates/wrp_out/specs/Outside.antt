@@ -1,5 +1,6 @@
--- What contracts see of an outside object: one value, with what it tells of its bytes (None where it tells nothing) and its
--- counts. Each relation is between the value before a call, or before several, and the value after.
+-- What contracts see of an outside object: one value, with what it tells of its bytes (None where
+-- it tells nothing) and its counts. Each relation is between the value before a call, or before
+-- several, and the value after.
 use Rattle.std.specs.Prelude.{◌≡◌, ℕ, ◌≤◌, ◌⊎◌, ◌↔◌, List, [], ◌++◌, length, take, Option, None, IfSome}
 use Rattle.std.specs.Option.{option_map}
 use Rattle.wrp_out.specs.Counts.{NeverFalls, Rose}
@@ -41,7 +42,8 @@ IsZeroAtEnd old count = IfSome old.left (λ bytes. count ≡ 0 ↔ (bytes ≡ []
 
 -- ---- sinks
 
--- a sink: the bytes that were written, how often a write has failed, and how often one of a piece that isn't empty took nothing
+-- a sink: the bytes that were written, how often a write has failed, and how often one of a piece
+-- that isn't empty took nothing
 pub record Output : Type 0 where
   pub written : Option (List ℕ)
   pub faults : ℕ

@@ -20,7 +20,8 @@ output_of sink = record { written = Some sink.written; faults = 0; empties = sin
 abbrev pub room_in : Filled → ℕ → ℕ
 room_in sink piece = min piece (sink.capacity - length sink.written)
 
--- the first so many bytes of a piece were taken, which counts as empty where there are none of a piece that isn't
+-- the first so many bytes of a piece were taken, which counts as empty where they are none of a
+-- piece that isn't
 abbrev pub filled_by : Filled → ℕ → List ℕ → Filled
 filled_by old count bytes = record old {
   written = old.written ++ take count bytes;

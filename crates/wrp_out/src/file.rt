@@ -1,4 +1,5 @@
-// Files and standard output as a source and as sinks. They tell no bytes, since no contract can say what the system does.
+// Files and standard output as a source and as sinks. They tell no bytes, since no contract can say
+// what the system does.
 ghost use Rattle.std.specs.Prelude.{◌≡◌, ◌<◌, ◌≤◌, None, [], length, Ok, IfOk, OnOk, OnErr, IsErr};
 ghost use Rattle.wrp_out.specs.Outside.{Gained, WriteFailed, EmptyTake, untold};
 
@@ -178,7 +179,7 @@ impl<'a, R: Print> Sink for StdoutSink<'a, R> {
     }
 }
 
-/// Passes on how many bytes of a piece of this length were taken, and counts a fault or an empty take.
+/// Passes on how many bytes of a piece of this length were taken. Counts a fault and an empty take.
 fn counted(
     outcome: io::Result<usize>,
     piece: usize,
@@ -187,10 +188,12 @@ fn counted(
 ) -> Result<usize, Failed>
     ensures ok { IfOk result (λ count. outcome ≡ Ok count) }
     ensures err { OnErr result (IsErr outcome) }
-    ensures gained { OnOk result (Gained (untold faults.old empties.old) (untold faults.new empties.new) []) }
+    ensures gained { OnOk result (Gained
+        (untold faults.old empties.old) (untold faults.new empties.new) []) }
     ensures empty { IfOk result (λ count. count ≡ 0 → 0 < piece
         → EmptyTake (untold faults.old empties.old) (untold faults.new empties.new)) }
-    ensures failed { OnErr result (WriteFailed (untold faults.old empties.old) (untold faults.new empties.new)) }
+    ensures failed { OnErr result (WriteFailed
+        (untold faults.old empties.old) (untold faults.new empties.new)) }
 {
     match outcome {
         Ok(count) => {

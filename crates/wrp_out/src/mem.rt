@@ -24,7 +24,12 @@ impl Model for MemSource {
 
     ghost Value = { Reading };
 
-    ghost view = { λ s. record { left = drop s.at s.bytes.items; fail = s.fail.items; calls = s.calls; faults = s.faults } };
+    ghost view = { λ s. record {
+      left = drop s.at s.bytes.items;
+      fail = s.fail.items;
+      calls = s.calls;
+      faults = s.faults;
+    } };
 
     ghost invariant = { λ s. s.at ≤ length s.bytes.items };
 }
@@ -32,7 +37,12 @@ impl Model for MemSource {
 impl MemSource {
     /// A source of a copy of these bytes, of which the calls with these numbers fail.
     pub fn new(alloc: Global, bytes: &[u8], fail: &[u64]) -> Result<MemSource, AllocError>
-        ensures { IfOk result (λ source. source ≡ record { left = bytes.now; fail = fail.now; calls = 0; faults = 0 }) }
+        ensures { IfOk result (λ source. source ≡ record {
+          left = bytes.now;
+          fail = fail.now;
+          calls = 0;
+          faults = 0;
+        }) }
     {
         Ok(MemSource {
             bytes: Vec::from_slice(alloc, bytes)?,
@@ -54,7 +64,8 @@ impl Source for MemSource {
 
         // What any source ensures.
         ensures fits { IfOk result (λ count. count ≤ length into.old) }
-        ensures took { IfOk result (λ count. Took (input_of self.old) (input_of self.new) (take count into.new)) }
+        ensures took { IfOk result (λ count.
+            Took (input_of self.old) (input_of self.new) (take count into.new)) }
         ensures others { IfOk result (λ count. drop count into.new ≡ drop count into.old) }
         ensures end { IfOk result (λ count. IsZeroAtEnd (input_of self.old) count) }
         ensures failed { OnErr result (ReadFailed (input_of self.old) (input_of self.new)) }
@@ -71,7 +82,8 @@ impl Source for MemSource {
     }
 }
 
-/// A sink that keeps its bytes and fails at the named calls, counted from 1, and where it finds no memory.
+/// A sink that keeps its bytes. It fails at the named calls, counted from 1, and where it finds no
+/// memory.
 #[derive(Debug, Drop)]
 pub struct MemSink {
     bytes: Vec<u8>,
@@ -86,13 +98,25 @@ impl Model for MemSink {
 
     ghost Value = { Writing };
 
-    ghost view = { λ s. record { written = s.bytes.items; fail = s.fail.items; calls = s.calls; faults = s.faults; starved = s.starved } };
+    ghost view = { λ s. record {
+      written = s.bytes.items;
+      fail = s.fail.items;
+      calls = s.calls;
+      faults = s.faults;
+      starved = s.starved;
+    } };
 }
 
 impl MemSink {
     /// An empty sink, of which the calls with these numbers fail.
     pub fn new(alloc: Global, fail: &[u64]) -> Result<MemSink, AllocError>
-        ensures { IfOk result (λ sink. sink ≡ record { written = []; fail = fail.now; calls = 0; faults = 0; starved = 0 }) }
+        ensures { IfOk result (λ sink. sink ≡ record {
+          written = [];
+          fail = fail.now;
+          calls = 0;
+          faults = 0;
+          starved = 0;
+        }) }
     {
         Ok(MemSink {
             bytes: Vec::new(alloc),
@@ -127,7 +151,8 @@ impl Sink for MemSink {
 
         // What any sink ensures.
         ensures fits { IfOk result (λ count. count ≤ length bytes.now) }
-        ensures gained { IfOk result (λ count. Gained (output_of self.old) (output_of self.new) (take count bytes.now)) }
+        ensures gained { IfOk result (λ count.
+            Gained (output_of self.old) (output_of self.new) (take count bytes.now)) }
         ensures empty { IfOk result (λ count. count ≡ 0 → 0 < length bytes.now
             → EmptyTake (output_of self.old) (output_of self.new)) }
         ensures failed { OnErr result (WriteFailed (output_of self.old) (output_of self.new)) }

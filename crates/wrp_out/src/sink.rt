@@ -12,7 +12,8 @@ pub trait Sink {
     /// Adds the first bytes of a piece, and answers how many.
     fn write(&mut self, bytes: &[u8]) -> Result<usize, Failed>
         ensures fits { IfOk result (λ count. count ≤ length bytes.now) }
-        ensures gained { IfOk result (λ count. Gained (output self.old) (output self.new) (take count bytes.now)) }
+        ensures gained { IfOk result (λ count.
+            Gained (output self.old) (output self.new) (take count bytes.now)) }
         ensures empty { IfOk result (λ count. count ≡ 0 → 0 < length bytes.now
             → EmptyTake (output self.old) (output self.new)) }
         ensures failed { OnErr result (WriteFailed (output self.old) (output self.new)) };

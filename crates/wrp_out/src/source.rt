@@ -14,11 +14,12 @@ pub trait Source {
     /// What contracts see of the source.
     ghost input: { Self → Input };
 
-    /// Takes the next bytes into the front of `into`, and answers how many. `Ok(0)` is the end of input.
+    /// Takes the next bytes into the front of `into`, and answers how many. `Ok(0)` is the end.
     fn read(&mut self, into: &mut [u8]) -> Result<usize, Failed>
         requires { 0 < length into.old }
         ensures fits { IfOk result (λ count. count ≤ length into.old) }
-        ensures took { IfOk result (λ count. Took (input self.old) (input self.new) (take count into.new)) }
+        ensures took { IfOk result (λ count.
+            Took (input self.old) (input self.new) (take count into.new)) }
         ensures others { IfOk result (λ count. IsSome (input self.old).left
             → drop count into.new ≡ drop count into.old) }
         ensures end { IfOk result (λ count. IsZeroAtEnd (input self.old) count) }

@@ -45,7 +45,8 @@ impl Source for SteadySource {
         requires { 0 < length into.old }
         ensures most { result ≡ Ok (min (length into.old) (length self.old)) }
         ensures fits { IfOk result (λ count. count ≤ length into.old) }
-        ensures took { IfOk result (λ count. Took (input_of self.old) (input_of self.new) (take count into.new)) }
+        ensures took { IfOk result (λ count.
+            Took (input_of self.old) (input_of self.new) (take count into.new)) }
         ensures others { IfOk result (λ count. drop count into.new ≡ drop count into.old) }
         ensures end { IfOk result (λ count. IsZeroAtEnd (input_of self.old) count) }
     {
@@ -70,7 +71,11 @@ impl Model for SteadySink {
 
     ghost Value = { Filled };
 
-    ghost view = { λ s. record { written = s.bytes.items; capacity = s.capacity; empties = s.empties } };
+    ghost view = { λ s. record {
+      written = s.bytes.items;
+      capacity = s.capacity;
+      empties = s.empties;
+    } };
 
     ghost invariant = { λ s. (vec_len s.bytes ≤ s.capacity) × (s.capacity ≤ vec_capacity s.bytes) };
 }
@@ -78,7 +83,11 @@ impl Model for SteadySink {
 impl SteadySink {
     /// An empty sink that has room for this many bytes.
     pub fn new(alloc: Global, capacity: usize) -> Result<SteadySink, AllocError>
-        ensures { IfOk result (λ sink. sink ≡ record { written = []; capacity = capacity; empties = 0 }) }
+        ensures { IfOk result (λ sink. sink ≡ record {
+          written = [];
+          capacity = capacity;
+          empties = 0;
+        }) }
     {
         Ok(SteadySink {
             bytes: Vec::with_capacity(alloc, capacity)?,
@@ -103,7 +112,8 @@ impl Sink for SteadySink {
         ensures most { result ≡ Ok (room_in self.old (length bytes.now)) }
         ensures filled { IfOk result (λ count. self.new ≡ filled_by self.old count bytes.now) }
         ensures fits { IfOk result (λ count. count ≤ length bytes.now) }
-        ensures gained { IfOk result (λ count. Gained (output_of self.old) (output_of self.new) (take count bytes.now)) }
+        ensures gained { IfOk result (λ count.
+            Gained (output_of self.old) (output_of self.new) (take count bytes.now)) }
         ensures empty { IfOk result (λ count. count ≡ 0 → 0 < length bytes.now
             → EmptyTake (output_of self.old) (output_of self.new)) }
     {
