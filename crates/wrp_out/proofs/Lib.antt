@@ -1,3 +1,3 @@
 pub mod CountFacts
 mod ReadFacts
-pub mod ToldFacts
+pub mod OutsideFacts

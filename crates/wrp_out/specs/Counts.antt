@@ -1,4 +1,4 @@
--- Counts of faults and of empty takes. A count never falls, and one that stands at its last value stays there.
+-- Counts of faults and of empty takes. A count never falls, and one at its last value stays there.
 use Rattle.std.specs.Prelude.{◌≡◌, ℕ, ◌+◌, ◌-◌, ◌^◌, ◌<◌, ◌≤◌, ◌⊎◌, min}
 
 -- the last value of a count

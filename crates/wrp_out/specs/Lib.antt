@@ -1,5 +1,5 @@
 pub mod Counts
+pub mod Outside
 pub mod Faulty
 pub mod Steady
 pub mod Tally
-pub mod Told

@@ -1,6 +1,7 @@
-// Files and standard output as a source and as sinks. They tell no bytes, since no contract can say what the system does.
-ghost use Rattle.std.specs.Prelude.{◌≡◌, ◌<◌, ◌≤◌, None, length, Ok, IfOk, OnOk, OnErr, IsErr};
-ghost use Rattle.wrp_out.specs.Counts.{NeverFalls, Rose};
+// Files and standard output as a source and as sinks. They tell no bytes, since no contract can say
+// what the system does.
+ghost use Rattle.std.specs.Prelude.{◌≡◌, ◌<◌, ◌≤◌, None, [], length, Ok, IfOk, OnOk, OnErr, IsErr};
+ghost use Rattle.wrp_out.specs.Outside.{Gained, WriteFailed, EmptyTake, untold};
 
 use crate::{Failed, Sink, Source};
 use std::fs::File;
@@ -44,9 +45,7 @@ impl<'a, R: Files> FileSource<'a, R> {
 }
 
 impl<'a, R: Files> Source for FileSource<'a, R> {
-    ghost left = { λ _. None };
-
-    ghost faults = { λ faults. faults };
+    ghost input = { λ faults. record { left = None; faults = faults } };
 
     fn read(&mut self, into: &mut [u8]) -> Result<usize, Failed> {
         match read_from(self.files, self.name, &mut self.file, into) {
@@ -114,11 +113,7 @@ impl<'a, R: Files> FileSink<'a, R> {
 }
 
 impl<'a, R: Files> Sink for FileSink<'a, R> {
-    ghost written = { λ _. None };
-
-    ghost faults = { λ tally. tally.faults };
-
-    ghost empties = { λ tally. tally.empties };
+    ghost output = { λ tally. untold tally.faults tally.empties };
 
     fn write(&mut self, bytes: &[u8]) -> Result<usize, Failed> {
         let outcome = write_to(self.files, self.name, &mut self.file, bytes);
@@ -176,11 +171,7 @@ impl<'a, R: Print> StdoutSink<'a, R> {
 }
 
 impl<'a, R: Print> Sink for StdoutSink<'a, R> {
-    ghost written = { λ _. None };
-
-    ghost faults = { λ tally. tally.faults };
-
-    ghost empties = { λ tally. tally.empties };
+    ghost output = { λ tally. untold tally.faults tally.empties };
 
     fn write(&mut self, bytes: &[u8]) -> Result<usize, Failed> {
         let outcome = io::writer(self.output).write(bytes);
@@ -188,7 +179,7 @@ impl<'a, R: Print> Sink for StdoutSink<'a, R> {
     }
 }
 
-/// Passes on how many bytes of a piece of this length were taken, and counts a fault or an empty take.
+/// Passes on how many bytes of a piece of this length were taken. Counts a fault and an empty take.
 fn counted(
     outcome: io::Result<usize>,
     piece: usize,
@@ -196,11 +187,13 @@ fn counted(
     empties: &mut u64,
 ) -> Result<usize, Failed>
     ensures ok { IfOk result (λ count. outcome ≡ Ok count) }
-    ensures empty { IfOk result (λ count. count ≡ 0 → 0 < piece → Rose empties.old empties.new) }
-    ensures failed { OnErr result (IsErr outcome) }
-    ensures fault { OnErr result (Rose faults.old faults.new) }
-    ensures faults { NeverFalls faults.old faults.new }
-    ensures empties { NeverFalls empties.old empties.new }
+    ensures err { OnErr result (IsErr outcome) }
+    ensures gained { OnOk result (Gained
+        (untold faults.old empties.old) (untold faults.new empties.new) []) }
+    ensures empty { IfOk result (λ count. count ≡ 0 → 0 < piece
+        → EmptyTake (untold faults.old empties.old) (untold faults.new empties.new)) }
+    ensures failed { OnErr result (WriteFailed
+        (untold faults.old empties.old) (untold faults.new empties.new)) }
 {
     match outcome {
         Ok(count) => {

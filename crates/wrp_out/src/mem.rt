@@ -1,8 +1,7 @@
 // A source and a sink over memory that fail at chosen calls, for tests of what stands on them.
-ghost use Rattle.std.specs.Prelude.{◌≡◌, ◌<◌, ◌≤◌, ◌↔◌, ◌⊎◌, ◌++◌, ◌+◌, [], Some, min, length, take, drop, Contains, IsTrue, IfOk, OnOk, OnErr, IsErr};
-ghost use Rattle.wrp_out.specs.Counts.{NeverFalls, Rose, one_more};
-ghost use Rattle.wrp_out.specs.Told.{Took, Gained};
-ghost use Rattle.wrp_out.specs.Faulty.{FailsNext};
+ghost use Rattle.std.specs.Prelude.{◌≡◌, ◌<◌, ◌≤◌, ◌↔◌, [], Some, length, take, drop, IsTrue, IfOk, OnErr};
+ghost use Rattle.wrp_out.specs.Outside.{Input, Output, Took, ReadFailed, IsZeroAtEnd, Gained, WriteFailed, EmptyTake};
+ghost use Rattle.wrp_out.specs.Faulty.{FailsNext, ReadAsNamed, WroteAsNamed, input_of, output_of};
 
 use crate::front::copy_front;
 use crate::{Failed, Sink, Source};
@@ -25,7 +24,12 @@ impl Model for MemSource {
 
     ghost Value = { Reading };
 
-    ghost view = { λ s. record { left = drop s.at s.bytes.items; fail = s.fail.items; calls = s.calls; faults = s.faults } };
+    ghost view = { λ s. record {
+      left = drop s.at s.bytes.items;
+      fail = s.fail.items;
+      calls = s.calls;
+      faults = s.faults;
+    } };
 
     ghost invariant = { λ s. s.at ≤ length s.bytes.items };
 }
@@ -33,7 +37,12 @@ impl Model for MemSource {
 impl MemSource {
     /// A source of a copy of these bytes, of which the calls with these numbers fail.
     pub fn new(alloc: Global, bytes: &[u8], fail: &[u64]) -> Result<MemSource, AllocError>
-        ensures { IfOk result (λ source. source ≡ record { left = bytes.now; fail = fail.now; calls = 0; faults = 0 }) }
+        ensures { IfOk result (λ source. source ≡ record {
+          left = bytes.now;
+          fail = fail.now;
+          calls = 0;
+          faults = 0;
+        }) }
     {
         Ok(MemSource {
             bytes: Vec::from_slice(alloc, bytes)?,
@@ -46,32 +55,20 @@ impl MemSource {
 }
 
 impl Source for MemSource {
-    ghost left = { λ s. Some s.left };
-
-    ghost faults = { λ s. s.faults };
+    ghost input = { λ s. input_of s };
 
     /// Takes as many bytes as are left and `into` has room for, in each call that isn't named.
     fn read(&mut self, into: &mut [u8]) -> Result<usize, Failed>
         requires { 0 < length into.old }
-        ensures fails { IsErr result ↔ FailsNext self.old.fail self.old.calls }
-        ensures most { IfOk result (λ count. count ≡ min (length into.old) (length self.old.left)) }
-        ensures ok { IfOk result (λ count. self.new ≡ record self.old {
-          left = drop count self.old.left;
-          calls = one_more self.old.calls;
-        }) }
-        ensures err { OnErr result (self.new ≡ record self.old {
-          calls = one_more self.old.calls;
-          faults = one_more self.old.faults;
-        }) }
+        ensures named { ReadAsNamed self.old self.new (length into.old) result }
 
         // What any source ensures.
         ensures fits { IfOk result (λ count. count ≤ length into.old) }
-        ensures took { IfOk result (λ count. Took (Some self.old.left) (Some self.new.left) (take count into.new)) }
+        ensures took { IfOk result (λ count.
+            Took (input_of self.old) (input_of self.new) (take count into.new)) }
         ensures others { IfOk result (λ count. drop count into.new ≡ drop count into.old) }
-        ensures end { IfOk result (λ count. count ≡ 0 ↔ (self.old.left ≡ [])) }
-        ensures kept { OnErr result (self.new.left ≡ self.old.left) }
-        ensures failed { OnErr result (Rose self.old.faults self.new.faults) }
-        ensures never_falls { NeverFalls self.old.faults self.new.faults }
+        ensures end { IfOk result (λ count. IsZeroAtEnd (input_of self.old) count) }
+        ensures failed { OnErr result (ReadFailed (input_of self.old) (input_of self.new)) }
     {
         let fails = is_named(&self.fail, self.calls);
         self.calls = self.calls.saturating_add(1);
@@ -85,7 +82,8 @@ impl Source for MemSource {
     }
 }
 
-/// A sink that keeps its bytes and fails at the named calls, counted from 1, and where it finds no memory.
+/// A sink that keeps its bytes. It fails at the named calls, counted from 1, and where it finds no
+/// memory.
 #[derive(Debug, Drop)]
 pub struct MemSink {
     bytes: Vec<u8>,
@@ -100,13 +98,25 @@ impl Model for MemSink {
 
     ghost Value = { Writing };
 
-    ghost view = { λ s. record { written = s.bytes.items; fail = s.fail.items; calls = s.calls; faults = s.faults; starved = s.starved } };
+    ghost view = { λ s. record {
+      written = s.bytes.items;
+      fail = s.fail.items;
+      calls = s.calls;
+      faults = s.faults;
+      starved = s.starved;
+    } };
 }
 
 impl MemSink {
     /// An empty sink, of which the calls with these numbers fail.
     pub fn new(alloc: Global, fail: &[u64]) -> Result<MemSink, AllocError>
-        ensures { IfOk result (λ sink. sink ≡ record { written = []; fail = fail.now; calls = 0; faults = 0; starved = 0 }) }
+        ensures { IfOk result (λ sink. sink ≡ record {
+          written = [];
+          fail = fail.now;
+          calls = 0;
+          faults = 0;
+          starved = 0;
+        }) }
     {
         Ok(MemSink {
             bytes: Vec::new(alloc),
@@ -133,37 +143,19 @@ impl MemSink {
 }
 
 impl Sink for MemSink {
-    ghost written = { λ s. Some s.written };
-
-    ghost faults = { λ s. s.faults };
-
-    ghost empties = { λ s. 0 };
+    ghost output = { λ s. output_of s };
 
     /// Takes the whole piece, in each call that isn't named and finds memory.
     fn write(&mut self, bytes: &[u8]) -> Result<usize, Failed>
-        ensures fails { FailsNext self.old.fail self.old.calls → IsErr result }
-        ensures whole { IfOk result (λ count. count ≡ length bytes.now) }
-        ensures ok { OnOk result (self.new ≡ record self.old {
-          written = self.old.written ++ bytes.now;
-          calls = one_more self.old.calls;
-        }) }
-
-        // Another call fails only where a growth finds no memory.
-        ensures named { FailsNext self.old.fail self.old.calls → self.new ≡ record self.old {
-          calls = one_more self.old.calls;
-          faults = one_more self.old.faults;
-        } }
-        ensures starved { ¬ FailsNext self.old.fail self.old.calls → OnErr result (self.new ≡ record self.old {
-          calls = one_more self.old.calls;
-          faults = one_more self.old.faults;
-          starved = one_more self.old.starved;
-        }) }
+        ensures named { WroteAsNamed self.old self.new bytes.now result }
 
         // What any sink ensures.
-        ensures gained { IfOk result (λ count. Gained (Some self.old.written) (Some self.new.written) (take count bytes.now)) }
-        ensures kept { OnErr result (self.new.written ≡ self.old.written) }
-        ensures failed { OnErr result (Rose self.old.faults self.new.faults) }
-        ensures never_falls { NeverFalls self.old.faults self.new.faults }
+        ensures fits { IfOk result (λ count. count ≤ length bytes.now) }
+        ensures gained { IfOk result (λ count.
+            Gained (output_of self.old) (output_of self.new) (take count bytes.now)) }
+        ensures empty { IfOk result (λ count. count ≡ 0 → 0 < length bytes.now
+            → EmptyTake (output_of self.old) (output_of self.new)) }
+        ensures failed { OnErr result (WriteFailed (output_of self.old) (output_of self.new)) }
     {
         let named = is_named(&self.fail, self.calls);
         self.calls = self.calls.saturating_add(1);

@@ -1,7 +1,7 @@
 // A source and a sink over memory that never fail. Both take their memory when they are made.
-ghost use Rattle.std.specs.Prelude.{◌≡◌, ◌<◌, ◌≤◌, ◌↔◌, ◌-◌, List, [], ◌++◌, ℕ, Some, min, length, take, drop, IfOk, IfSome, IsSome, IsOk, OnErr, nat_eq};
-ghost use Rattle.wrp_out.specs.Counts.{NeverFalls, Rose, one_more};
-ghost use Rattle.wrp_out.specs.Told.{Took, Gained};
+ghost use Rattle.std.specs.Prelude.{◌≡◌, ◌<◌, ◌≤◌, [], Some, Ok, min, length, take, drop, IfOk};
+ghost use Rattle.wrp_out.specs.Outside.{Input, Output, Took, IsZeroAtEnd, Gained, EmptyTake};
+ghost use Rattle.wrp_out.specs.Steady.{room_in, filled_by, input_of, output_of};
 
 use crate::front::copy_front;
 use crate::{Failed, Sink, Source};
@@ -38,19 +38,17 @@ impl SteadySource {
 }
 
 impl Source for SteadySource {
-    ghost left = { λ left. Some left };
-
-    ghost faults = { λ left. 0 };
+    ghost input = { λ left. input_of left };
 
     /// Takes as many bytes as are left and `into` has room for.
     fn read(&mut self, into: &mut [u8]) -> Result<usize, Failed>
         requires { 0 < length into.old }
-        ensures steady { IsOk result }
-        ensures most { IfOk result (λ count. count ≡ min (length into.old) (length self.old)) }
+        ensures most { result ≡ Ok (min (length into.old) (length self.old)) }
         ensures fits { IfOk result (λ count. count ≤ length into.old) }
-        ensures took { IfOk result (λ count. Took (Some self.old) (Some self.new) (take count into.new)) }
+        ensures took { IfOk result (λ count.
+            Took (input_of self.old) (input_of self.new) (take count into.new)) }
         ensures others { IfOk result (λ count. drop count into.new ≡ drop count into.old) }
-        ensures end { IfOk result (λ count. count ≡ 0 ↔ (self.old ≡ [])) }
+        ensures end { IfOk result (λ count. IsZeroAtEnd (input_of self.old) count) }
     {
         let count = copy_front(&self.bytes[self.at..], into);
         self.at += count;
@@ -73,7 +71,11 @@ impl Model for SteadySink {
 
     ghost Value = { Filled };
 
-    ghost view = { λ s. record { written = s.bytes.items; capacity = s.capacity; empties = s.empties } };
+    ghost view = { λ s. record {
+      written = s.bytes.items;
+      capacity = s.capacity;
+      empties = s.empties;
+    } };
 
     ghost invariant = { λ s. (vec_len s.bytes ≤ s.capacity) × (s.capacity ≤ vec_capacity s.bytes) };
 }
@@ -81,7 +83,11 @@ impl Model for SteadySink {
 impl SteadySink {
     /// An empty sink that has room for this many bytes.
     pub fn new(alloc: Global, capacity: usize) -> Result<SteadySink, AllocError>
-        ensures { IfOk result (λ sink. sink ≡ record { written = []; capacity = capacity; empties = 0 }) }
+        ensures { IfOk result (λ sink. sink ≡ record {
+          written = [];
+          capacity = capacity;
+          empties = 0;
+        }) }
     {
         Ok(SteadySink {
             bytes: Vec::with_capacity(alloc, capacity)?,
@@ -99,24 +105,17 @@ impl SteadySink {
 }
 
 impl Sink for SteadySink {
-    ghost written = { λ s. Some s.written };
-
-    ghost faults = { λ s. 0 };
-
-    ghost empties = { λ s. s.empties };
+    ghost output = { λ s. output_of s };
 
     /// Takes as many bytes of the piece as there is room for.
     fn write(&mut self, bytes: &[u8]) -> Result<usize, Failed>
-        ensures steady { IsOk result }
-        ensures most { IfOk result (λ count. count ≡ min (length bytes.now) (self.old.capacity - length self.old.written)) }
-        ensures gained { IfOk result (λ count. self.new.written ≡ self.old.written ++ take count bytes.now) }
-        ensures capacity { self.new.capacity ≡ self.old.capacity }
-        // The count of empty takes rises exactly where the sink is full and the piece isn't empty.
-        ensures full { self.old.capacity ≤ length self.old.written → 0 < length bytes.now
-            → self.new.empties ≡ one_more self.old.empties }
-        ensures room { length self.old.written < self.old.capacity → self.new.empties ≡ self.old.empties }
-        ensures no_piece { length bytes.now ≡ 0 → self.new.empties ≡ self.old.empties }
-        ensures never_falls { NeverFalls self.old.empties self.new.empties }
+        ensures most { result ≡ Ok (room_in self.old (length bytes.now)) }
+        ensures filled { IfOk result (λ count. self.new ≡ filled_by self.old count bytes.now) }
+        ensures fits { IfOk result (λ count. count ≤ length bytes.now) }
+        ensures gained { IfOk result (λ count.
+            Gained (output_of self.old) (output_of self.new) (take count bytes.now)) }
+        ensures empty { IfOk result (λ count. count ≡ 0 → 0 < length bytes.now
+            → EmptyTake (output_of self.old) (output_of self.new)) }
     {
         let count = bytes.len().min(self.capacity - self.bytes.len());
         if count == 0 && !bytes.is_empty() {

@@ -1,6 +1,6 @@
 // Each call once, and a caller that knows the traits alone.
 ghost use Rattle.std.specs.Prelude.{IfOk};
-ghost use Rattle.wrp_out.specs.Told.{Tells};
+ghost use Rattle.wrp_out.specs.Outside.{Tells};
 
 use crate::{
     Failed, FileSink, FileSource, MemSink, MemSource, Sink, Source, StdoutSink, SteadySink,
@@ -31,7 +31,7 @@ impl From<AllocError> for Refusal {
 
 /// Reads a source to its end, in pieces of three bytes.
 fn read_whole<S: Source>(alloc: Global, source: &mut S) -> Result<Vec<u8>, Refusal>
-    ensures { IfOk result (λ whole. Tells (S.left source.old) whole.items) }
+    ensures { IfOk result (λ whole. Tells (S.input source.old).left whole.items) }
 {
     let mut whole = Vec::new(alloc);
     let mut piece = [0; 3];

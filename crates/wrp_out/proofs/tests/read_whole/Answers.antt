@@ -1,4 +1,4 @@
-use Rattle.wrp_out.proofs.ToldFacts.{took_nothing}
+use Rattle.wrp_out.proofs.OutsideFacts.{took_nothing}
 use Rattle.wrp_out.proofs.tests.read_whole.Goals as goal
 
 pub reads-init : goal.reads-init

@@ -1,4 +1,4 @@
-use Rattle.std.proofs.Common.{◌≤◌, ◌∙◌, Some, length, drop, ap, sym, arith}
+use Rattle.std.proofs.Common.{◌≤◌, ◌∙◌, Some, length, drop, ap, sym, arith, rules}
 use Rattle.std.proofs.lemmas.List.{take_rest, drop-drop}
 use Rattle.wrp_out.specs.Faulty.{Reading}
 use Rattle.wrp_out.proofs.ReadFacts.{front_and_rest}
@@ -11,4 +11,7 @@ returns-clause-took c =
     let copied = rw take_rest at c.copy_front-count.ensures.copied in
     let fits : c.copy_front-count.result ≤ length left = omega arith in
     let whole = front_and_rest left c.args.into.now _ c.copy_front-count.result fits copied in
-    ap Some (ap (λ (s : Reading). s.left) (sym c.self.view_is) ∙ (rw (c.deref-2.ensures.value, drop-drop) at whole))
+    record {
+      front = ap Some (ap (λ (s : Reading). s.left) (sym c.self.view_is) ∙ (rw (c.deref-2.ensures.value, drop-drop) at whole));
+      faults = search rules;
+    }
