@@ -14,7 +14,8 @@ use Rattle.wrp_town.specs.declared.town.Town.{Town}
 use Rattle.wrp_town.specs.Arcs.{tail_of, head_of, demands, is_required, arc_of}
 use Rattle.wrp_town.specs.Walks.{serves, is_tour, count_of}
 use Rattle.wrp_town.proofs.WalkLaws.{tour_closed, tour_serves, are_legal-from_closed}
-use Rattle.wrp_town.proofs.ServiceLaws.{member_from_any, member_passes, served_arc}
+use Rattle.wrp_town.proofs.Members.{member_from_any, member_passes}
+use Rattle.wrp_town.proofs.ServiceLaws.{served_arc}
 use Rattle.wrp_rules.specs.Rows.{joins_ends, joining_demands, chain_distance, kc_row, inner_sets_hold, streets_keep_sets, is_chain}
 use Rattle.wrp_rules.specs.Sets.{arc_at}
 use Rattle.wrp_laws.specs.Meets.{MeetsRow}

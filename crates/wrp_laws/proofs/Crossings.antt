@@ -17,7 +17,8 @@ use Rattle.wrp_town.specs.Streets.{demands_at, demands_from}
 use Rattle.wrp_town.specs.Arcs.{tail_of, head_of, demands, is_required, has_arc, arc_of}
 use Rattle.wrp_town.specs.Walks.{leads, is_closed_walk, serves, serves_all, is_tour, count_of}
 use Rattle.wrp_town.proofs.WalkLaws.{LeadsBy-from_leads, leads-from_closed, tour_closed, tour_serves, are_legal-from_closed}
-use Rattle.wrp_town.proofs.ServiceLaws.{inside_head, inside_tail, inside_cases, inside_none, member_from_any, member_passes, member_from_has_arc, demand_arc_street, demand_arc_from, served_arc, step_from_counted}
+use Rattle.wrp_town.proofs.Members.{inside_head, inside_tail, inside_cases, inside_none, member_from_any, member_passes}
+use Rattle.wrp_town.proofs.ServiceLaws.{member_from_has_arc, demand_arc_street, demand_arc_from, served_arc, step_from_counted}
 use Rattle.wrp_rules.specs.Rows.{one_if, conn_row, odd_row}
 use Rattle.wrp_rules.specs.Sets.{is_in, leaves, crosses, arc_at, crossing_demands, lies_in, lies_outside, is_parted}
 use Rattle.wrp_laws.specs.Meets.{MeetsRow}

@@ -12,7 +12,8 @@ use Rattle.wrp_town.specs.Arcs.{is_legal, tail_of, head_of, demands, legal_arcs,
 use Rattle.wrp_town.specs.Walks.{leads, is_closed_walk, serves, is_tour, HasNoTour}
 use Rattle.wrp_town.proofs.TownLaws.{legal_below, tail_of-below, slice_get_inside, sound_street}
 use Rattle.wrp_town.proofs.WalkLaws.{LeadsBy-from_leads, leads-from_closed, tour_closed, tour_serves, tour_legal}
-use Rattle.wrp_town.proofs.ServiceLaws.{inside_head, inside_cases, inside_none, member_from_any, member_passes, served_arc, step_from_counted}
+use Rattle.wrp_town.proofs.Members.{inside_head, inside_cases, inside_none, member_from_any, member_passes}
+use Rattle.wrp_town.proofs.ServiceLaws.{served_arc, step_from_counted}
 use Rattle.wrp_rules.specs.declared.record.Record.TheVariants.{Labels}
 use Rattle.wrp_rules.specs.Nodes.{Standing}
 use Rattle.wrp_rules.specs.Rules.{broken_rule, all_below, keeps_label, breaks_label}

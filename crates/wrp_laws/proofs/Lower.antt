@@ -14,7 +14,8 @@ use Rattle.wrp_town.specs.Arcs.{is_legal, legal_arcs, arcs, demands, arc_of}
 use Rattle.wrp_town.specs.Walks.{is_tour, walk_cost, count_of, HasNoTour}
 use Rattle.wrp_town.proofs.TownLaws.{legal_below}
 use Rattle.wrp_town.proofs.WalkLaws.{tour_closed, tour_legal}
-use Rattle.wrp_town.proofs.ServiceLaws.{member_passes, counted_from_step}
+use Rattle.wrp_town.proofs.Members.{member_passes}
+use Rattle.wrp_town.proofs.ServiceLaws.{counted_from_step}
 use Rattle.wrp_rules.specs.declared.record.Record.{Record}
 use Rattle.wrp_rules.specs.declared.record.Record.TheVariants.{Tour, Conn, Odd, Round, Kc, Bound, Empty, Apart, Point, Blind, Split, Labels}
 use Rattle.wrp_rules.specs.Rows.{Row}

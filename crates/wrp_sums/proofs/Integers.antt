@@ -82,6 +82,13 @@ at_most_trans a b c h k = omega (arith, linear)
 pub at_most_antisym : (a b : ℤ) → a ≤ℤ b → b ≤ℤ a → a ≡ b
 at_most_antisym a b h k = omega (arith, linear)
 
+-- natural numbers as whole numbers keep their order
+pub pos-≤ℤ : (m n : ℕ) → m ≤ n → pos m ≤ℤ pos n
+pos-≤ℤ m n h = omega (arith, linear)
+
+pub ≤-from_pos : (m n : ℕ) → pos m ≤ℤ pos n → m ≤ n
+≤-from_pos m n h = omega (arith, linear)
+
 -- an order, scaled
 pub scale_le : (n : ℕ) (b c : ℤ) → b ≤ℤ c → (pos n *ℤ b) ≤ℤ (pos n *ℤ c)
 scale_le n b c h = omega (arith, ints, mul-le-mul_left n (le_out b c h))

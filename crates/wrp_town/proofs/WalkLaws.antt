@@ -1,13 +1,14 @@
 -- Laws of walks: of steps put one after another, of what they serve, cost and count.
-use Rattle.std.proofs.Common.{◌≡◌, ℕ, ◌+◌, Bool, true, false, cond, ◌&&◌, ◌==◌, List, [], ◌∷◌, ◌++◌, ap, refl, sym, ◌∙◌, subst, eq-eqb}
+use Rattle.std.proofs.Common.{◌≡◌, ℕ, ◌+◌, Bool, true, false, cond, ◌&&◌, ◌||◌, ◌==◌, List, [], ◌∷◌, ◌++◌, ap, refl, sym, ◌∙◌, subst, eq-eqb}
 use Rattle.std.specs.List.{list_all}
 use Rattle.std.proofs.Math.Bool.{and_assoc}
 use Rattle.std.proofs.lemmas.Bool.{and_parts, and_from, eqb-true}
+use Rattle.std.proofs.lemmas.List.Folds.{list_any-append}
 use Rattle.std.proofs.lemmas.List.Sums.{sum_by-cons, sum_by-append}
 use Rattle.wrp_town.specs.declared.street.Step.{Step}
 use Rattle.wrp_town.specs.declared.town.Town.{Town}
-use Rattle.wrp_town.specs.Arcs.{is_legal, tail_of, head_of, cost_or_zero, arc_of}
-use Rattle.wrp_town.specs.Walks.{leads, is_closed_walk, serves_all, is_tour, walk_cost, count_of}
+use Rattle.wrp_town.specs.Arcs.{is_legal, tail_of, head_of, cost_or_zero, arc_of, has_arc}
+use Rattle.wrp_town.specs.Walks.{leads, is_closed_walk, serves, serves_all, is_tour, walk_cost, count_of}
 use Rattle.wrp_town.proofs.Lists.{eqb_turned}
 
 -- ---- where steps lead
@@ -98,3 +99,39 @@ count_of-cons step steps arc = sum_by-cons (λ s. cond (arc_of s == arc) 1 0) st
 
 pub count_of-append : (xs ys : List Step) (arc : ℕ) → count_of (xs ++ ys) arc ≡ count_of xs arc + count_of ys arc
 count_of-append xs ys arc = sum_by-append (λ s. cond (arc_of s == arc) 1 0) xs ys
+
+-- the junction where steps from junction i end
+abbrev pub end_of : Town → ℕ → List Step → ℕ
+end_of town i [] = i
+end_of town i (step ∷ steps) = end_of town (head_of town (arc_of step)) steps
+
+-- steps taken apart
+pub record LeadsVia (town : Town) (i : ℕ) (xs ys : List Step) (j : ℕ) : Type 0 where
+  pub before : leads town i xs (end_of town i xs) ≡ true
+  pub after : leads town (end_of town i xs) ys j ≡ true
+
+pub leads-split : (town : Town) (i : ℕ) (xs ys : List Step) (j : ℕ) → leads town i (xs ++ ys) j ≡ true → LeadsVia town i xs ys j
+leads-split town i [] ys j lead = record { before = eq-eqb i i refl; after = lead }
+leads-split town i (step ∷ xs) ys j lead =
+    let by = LeadsBy-from_leads town i step (xs ++ ys) j lead in
+    let via = leads-split town (head_of town (arc_of step)) xs ys j by.goes_on in
+    record {
+      before = leads-from_LeadsBy town i step xs _ (record { legal = by.legal; begins = by.begins; goes_on = via.before });
+      after = via.after;
+    }
+
+-- a closed walk may begin at any of its steps
+pub closed-turned : (town : Town) (xs ys : List Step) → is_closed_walk town (xs ++ ys) ≡ true → is_closed_walk town (ys ++ xs) ≡ true
+closed-turned town xs ys closed =
+    let from = leads-from_closed town (xs ++ ys) closed in
+    let via = leads-split town from.0 xs ys from.0 from.1 in
+    closed-from_leads town (end_of town from.0 xs) (ys ++ xs) (leads-join town _ ys xs from.0 _ via.after via.before)
+
+pub tour_legal : (town : Town) (steps : List Step) → is_tour town steps ≡ true → are_legal town steps ≡ true
+tour_legal town steps tour = are_legal-from_closed town steps (tour_closed town steps tour)
+
+pub tour_from : (town : Town) (steps : List Step) → is_closed_walk town steps ≡ true → serves_all town steps ≡ true → is_tour town steps ≡ true
+tour_from town steps closed served = and_from _ _ closed served
+
+pub serves-append : (xs ys : List Step) (demand : List ℕ) → serves (xs ++ ys) demand ≡ (serves xs demand || serves ys demand)
+serves-append xs ys demand = list_any-append (λ step. has_arc demand (arc_of step)) xs ys

@@ -8,7 +8,9 @@ use Rattle.wrp_rules.specs.declared.record.Record.TheVariants.{Odd, Bound}
 use Rattle.wrp_rules.specs.declared.rule.Rule.{Rule}
 use Rattle.wrp_rules.specs.declared.rule.Rule.TheVariants as rules
 use Rattle.wrp_rules.specs.Nodes.{Standing, standing, start, after}
-use Rattle.wrp_rules.specs.Rules.{broken_rule, first_broken, has_number_rules, is_alone, rules_of, is_count, is_from_one, are_pairs, are_multipliers}
+use Rattle.wrp_rules.specs.Contents.{has_number_rules}
+use Rattle.wrp_rules.specs.Ranges.{is_count, is_from_one, are_pairs, are_multipliers}
+use Rattle.wrp_rules.specs.Rules.{broken_rule, first_broken, is_alone, rules_of}
 use Rattle.wrp_worked.proofs.Towns.{IsRefused, windy_street}
 use Rattle.wrp_worked.proofs.Lists.{there_and_back}
 
@@ -57,7 +59,7 @@ too_many_multipliers : (town : Town) (s : Standing) (node den : ℕ) (mult : Lis
     → broken_rule town s (Bound node den mult) ≡ Some rules.Number
 too_many_multipliers town s node den mult many =
     number_comes_first town s (Bound node den mult)
-    (and_false (is_count node && is_from_one (2 ^ 40) den) (are_multipliers (2 ^ 60) mult) (and_false (are_pairs (2 ^ 60) mult) (nat_le (length mult) 4096) many))
+    (and_false (is_count node && (is_from_one (2 ^ 40) den && true)) (are_multipliers (2 ^ 60) mult) (and_false (are_pairs (2 ^ 60) mult) (nat_le (length mult) 4096) many))
 
 pub multipliers_run_out : IsRefused windy_street (there_and_back 5 ∷ []) (Bound 0 1 (units 4097)) rules.Number
 multipliers_run_out = too_many_multipliers windy_street (standing windy_street (there_and_back 5 ∷ [])) 0 1 (units 4097) refl

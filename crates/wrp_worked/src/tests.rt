@@ -6,12 +6,8 @@ ghost use Rattle.wrp_euler.specs.Circuits.{AreCounts};
 
 use std::alloc::Global;
 use std::test::Fail;
-use wrp_euler::{CircuitFault, circuit, circuit_laws};
+use wrp_euler::{CircuitFault, circuit};
 use wrp_graph::Graph;
-use wrp_laws::{
-    arcs_sum_as_steps, balance_rows_compare_stars, bounds_hold, judged_ends_hold,
-    judged_optima_are_least, tours_meet_the_base_rows,
-};
 use wrp_parts::required_parts;
 use wrp_paths::shortest;
 use wrp_street::{List, Step, TableFault, Town, read_town};
@@ -197,16 +193,4 @@ fn counts_have_a_circuit_or_a_fault(rt: HostRuntime) -> Result<(), Fail> {
     );
     assert_eq!(rt; circuit_length(alloc, CHAIN, &[0; 6])?, Some(Ok(0)));
     Ok(())
-}
-
-#[test]
-fn laws_can_be_called() {
-    circuit_laws();
-    arcs_sum_as_steps();
-    balance_rows_compare_stars();
-    tours_meet_the_base_rows();
-    bounds_hold();
-    judged_ends_hold();
-    judged_optima_are_least();
-    crate::some_list_is_judged();
 }
