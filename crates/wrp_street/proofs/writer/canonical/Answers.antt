@@ -1,4 +1,4 @@
-use Rattle.std.proofs.Common.{subst, sym, ◌≤◌, ◌^◌, List, ℕ, length}
+use Rattle.std.proofs.Common.{subst, sym, ◌≤◌, List, ℕ, length}
 use Rattle.wrp_street.specs.Canonical.{size_limit}
 use Rattle.wrp_street.specs.Tables.{IsTable}
 use Rattle.wrp_street.proofs.TextSteps.{sound_item, header_written, street_written, all_written}
