@@ -7,7 +7,7 @@ ghost use Rattle.wrp_rules.specs.Rows.{Row};
 ghost use Rattle.wrp_rules.specs.Nodes.{Node};
 ghost use Rattle.wrp_rules.specs.Rules.{is_from_one, are_multipliers};
 ghost use Rattle.wrp_check.specs.Pools.{IsSmallRow, Holds};
-ghost use Rattle.wrp_check.specs.Tables.{entry_at, AreWithin, most_combined, most_combined_side, reduced_by, covers, bound_or_negative, bound_verdict};
+ghost use Rattle.wrp_check.specs.Tables.{AreWithin, most_combined, most_combined_side, reduced_by, covers, bound_or_negative, bound_verdict};
 
 use crate::pool::{Pool, combine};
 use wrp_num::ceil_div;

@@ -3,7 +3,7 @@ ghost use Rattle.std.specs.Prelude.{◌≡◌, ◌^◌, ◌<◌, ◌≤◌, true
 ghost use Rattle.std.specs.List.{All};
 ghost use Rattle.wrp_rules.specs.Rules.{are_multipliers};
 ghost use Rattle.wrp_check.specs.Pools.{most_right_side, AreSmallTerms, IsSmallRow, sparse_at, has_rows};
-ghost use Rattle.wrp_check.specs.Tables.{entry_at, AreWithin, IsWeighted, Grow, AreCombined, IsCombinedSide};
+ghost use Rattle.wrp_check.specs.Tables.{AreWithin, IsWeighted, Grow, AreCombined, IsCombinedSide};
 
 use wrp_proof::PairsOf;
 use wrp_town::List;

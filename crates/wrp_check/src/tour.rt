@@ -1,6 +1,6 @@
 //! What the checker says of a tour: whether it keeps the rules of a tour, each tried by passes over
 //! its steps. The marks of the arcs belong to the caller.
-ghost use Rattle.std.specs.Prelude.{◌≡◌, ℕ, ◌+◌, ◌*◌, ◌<◌, ◌==◌, nat_lt, true, false, pos, List, length, EachIndex, slice_index_or};
+ghost use Rattle.std.specs.Prelude.{◌≡◌, ◌+◌, ◌*◌, ◌<◌, ◌==◌, true, false, pos, List, length, EachIndex, slice_index_or};
 ghost use Rattle.std.specs.List.{list_all};
 ghost use Rattle.wrp_town.specs.declared.street.Step.{Step};
 ghost use Rattle.wrp_town.specs.Streets.{demands_at};
