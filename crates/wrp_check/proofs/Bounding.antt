@@ -18,7 +18,7 @@ use Rattle.wrp_check.specs.declared.bound.Judged.{Judged}
 use Rattle.wrp_check.specs.declared.bound.Judged.TheVariants as judged_as
 use Rattle.wrp_check.specs.Pools.{is_plain, judged}
 use Rattle.wrp_check.specs.Judging.{IsReady, Stands, Judges, bound_or_rule}
-use Rattle.wrp_check.specs.Verdicts.{unless}
+use Rattle.wrp_check.specs.JudgedLines.{unless}
 
 -- the rules of a bound behind Number and Lonely, as tests
 abbrev pub tried : Bool → Bool → Bool → Bool → Option Rule

@@ -6,7 +6,7 @@ ghost use Rattle.wrp_rules.specs.declared.record.Record.TheVariants.{Tour, Bound
 ghost use Rattle.wrp_rules.specs.Nodes.{Standing, start, is_below};
 ghost use Rattle.wrp_rules.specs.Rules.{has_number_rules, int_eq};
 ghost use Rattle.wrp_rules.specs.Judged.{judged_rule};
-ghost use Rattle.wrp_check.specs.Verdicts.{judged_line, judged_end, unless};
+ghost use Rattle.wrp_check.specs.JudgedLines.{judged_line, judged_end, unless};
 ghost use Rattle.wrp_check.specs.Judging.{IsReady, Stands, Judges, bound_or_rule, agrees_at};
 
 use crate::bound::{Judged, judge_bound};
