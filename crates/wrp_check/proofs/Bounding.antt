@@ -18,7 +18,7 @@ use Rattle.wrp_check.specs.declared.bound.BoundVerdict.{BoundVerdict}
 use Rattle.wrp_check.specs.declared.bound.BoundVerdict.TheVariants as verdicts
 use Rattle.wrp_check.specs.Tables.{has_no_negative_reduced_cost, bound_or_negative, bound_verdict}
 use Rattle.wrp_check.specs.Judging.{IsReady, Stands, record_or_rule, Judges, bound_or_rule}
-use Rattle.wrp_check.specs.Verdicts.{unless}
+use Rattle.wrp_check.specs.JudgedLines.{unless}
 
 -- the rules of a bound behind Number and Lonely, as tests
 abbrev pub tried : Bool → Bool → Bool → Bool → Option Rule

@@ -1,4 +1,4 @@
--- The checker accepts each proof that ends `optimal`, whose records are all judged.
+-- The checker accepts each proof that is judged.
 use Rattle.std.proofs.Common.{inl, inr, ◌≡◌, ℕ, ◌+◌, ◌-◌, ◌<◌, ◌≤◌, ◌^◌, min, Bool, true, false, cond, ◌&&◌, not, ◌==◌, nat_lt, nat_le, List, [], ◌∷◌, ◌++◌, map, length, fold, Option, None, Some, is_none, Ok, refl, ap, ◌∙◌, subst, arith, length-append, append_assoc}
 use Rattle.std.specs.Char.{is_ascii_digit}
 use Rattle.std.specs.Fmt.{decimal}
@@ -12,7 +12,8 @@ use Rattle.wrp_town.specs.declared.street.Step.{Step}
 use Rattle.wrp_town.specs.declared.town.Town.{Town}
 use Rattle.wrp_rules.specs.declared.record.Record.{Record}
 use Rattle.wrp_rules.specs.declared.record.Record.TheVariants.{Tour, Conn, Odd, Round, Kc, Bound, Empty, Apart, Point, Blind, Split, Labels}
-use Rattle.wrp_rules.specs.declared.record.End.TheVariants.{Optimal}
+use Rattle.wrp_rules.specs.declared.record.End.{End}
+use Rattle.wrp_rules.specs.declared.record.End.TheVariants.{Optimal, Infeasible, Unfinished}
 use Rattle.wrp_rules.specs.declared.rule.Rule.{Rule}
 use Rattle.wrp_rules.specs.Nodes.{Standing, start, after, standing}
 use Rattle.wrp_rules.specs.Lines.{line_of, end_line, step_text, pair_text}
@@ -28,9 +29,10 @@ use Rattle.wrp_grammar.proofs.PairLists.{index-of_most}
 use Rattle.wrp_proof.proofs.LineLaws.{line-spelled}
 use Rattle.wrp_proof.proofs.SpelledLaws.{is_viewed, Tried, passes-tried, end_line-spelled}
 use Rattle.wrp_check.specs.Streams.{most_bytes, is_one_line}
-use Rattle.wrp_check.specs.Verdicts.{Accepted, judged_line, judged_end, is_end, is_long, limit_of, verdict_on, verdict}
+use Rattle.wrp_check.specs.JudgedLines.{judged_line, judged_end, is_end, is_judged_end}
+use Rattle.wrp_check.specs.Verdicts.{Accepted, is_long, limit_of, verdict_on, verdict}
 use Rattle.wrp_check.specs.Accepted.{IsJudgedProof}
-use Rattle.wrp_check.proofs.VerdictSteps.{verdict-goes, verdict-accepted, verdict-started}
+use Rattle.wrp_check.proofs.VerdictSteps.{behind_records, verdict-goes, verdict-accepted, verdict-started}
 
 -- ---- lines of records have no line feed
 
@@ -217,12 +219,12 @@ short : (limit taken own : ℕ) (line : List ℕ) → length line ≤ limit → 
 short limit taken own line low fits = or_from (nat_lt limit (length line)) (nat_lt most_bytes (taken + own)) (le-ltb limit (length line) low) (le-ltb most_bytes (taken + own) fits)
 
 -- the lines of records, and of the end that agrees with them
-lines-accepted : (town : Town) (limit : ℕ) (s : Standing) (number taken : ℕ) (records : List Record) (cost : ℕ) → 2 ^ 24 ≤ limit → is_count cost ≡ true → goes_on town s records ≡ true → go_on_judged town s records ≡ true → agrees (fold (after town) s records) (Optimal cost) ≡ true → AllByRecursion (λ item. length (line_of item) ≤ limit) records → taken + length (record_lines records ++ ended (end_line (Optimal cost))) ≤ 2 ^ 40 → verdict_on town limit s number taken (record_lines records ++ ended (end_line (Optimal cost))) ≡ Accepted (Optimal cost)
+lines-accepted : (town : Town) (limit : ℕ) (s : Standing) (number taken : ℕ) (records : List Record) (cost : ℕ) → 2 ^ 24 ≤ limit → is_count cost ≡ true → goes_on town s records ≡ true → go_on_judged town s records ≡ true → agrees (fold (after town) s records) (Optimal cost) ≡ true → AllByRecursion (λ item. length (line_of item) ≤ limit) records → taken + length (record_lines records ++ ended (end_line (Optimal cost))) ≤ 2 ^ 40 → verdict_on town (behind_records limit s number taken) (record_lines records ++ ended (end_line (Optimal cost))) ≡ Accepted (Optimal cost)
 lines-accepted town limit s number taken [] cost high count valid judged agreed low whole =
     let line = end_line (Optimal cost) in
     let few = end-short cost count in
     let all = length-append line (10 ∷ []) in
-    verdict-accepted town limit s number taken line [] (Optimal cost) (end-one cost count) (short limit taken (length line + 1) line (omega (arith, few)) (omega (arith, whole, all))) refl (end-judged s cost count agreed) refl
+    verdict-accepted town limit s number taken line [] (end-one cost count) (short limit taken (length line + 1) line (omega (arith, few)) (omega (arith, whole, all))) (Optimal cost) refl (end-judged s cost count agreed) refl
 lines-accepted town limit s number taken (item ∷ items) cost high count valid judged agreed low whole =
     let first = first_of_records town s item items valid judged in
     let is = record_line_is item first.tried.viewed first.tried.numbers in
@@ -232,8 +234,8 @@ lines-accepted town limit s number taken (item ∷ items) cost high count valid 
     let cut : (ended line ++ record_lines items) ++ tail ≡ line ++ 10 ∷ bytes = append_assoc (ended line) (record_lines items) tail ∙ append_assoc line (10 ∷ []) bytes in
     let size = ap length cut in
     let all = length-append line (10 ∷ bytes) in
-    ap (verdict_on town limit s number taken) cut
-    ∙ verdict-goes town limit s number taken line bytes item is.one (short limit taken (length line + 1) line low.0 (omega (arith, whole, size, all))) is.no_end (item-judged town s item first.tried)
+    ap (verdict_on town (behind_records limit s number taken)) cut
+    ∙ verdict-goes town limit s number taken line bytes is.one (short limit taken (length line + 1) line low.0 (omega (arith, whole, size, all))) item is.no_end (item-judged town s item first.tried)
     ∙ lines-accepted town limit (after town s item) (number + 1) (taken + (length line + 1)) items cost high count first.valid first.judged agreed low.1 (omega (arith, whole, size, all))
 
 -- ---- whole proofs
@@ -253,7 +255,9 @@ version-accepted town version records cost bytes one low named high judged prove
     ∙ verdict-started town version.line behind version.limit one low named
     ∙ lines-accepted town version.limit (start town) 2 (length version.line + 1) records cost high count proved.valid judged proved.agreeing proved.lines (omega (arith, whole, size, all))
 
--- a proof that ends `optimal`, each record of which is judged, is accepted
-pub judged-accepted : (town : Town) (bytes : List ℕ) (cost : ℕ) → IsJudgedProof town (Optimal cost) bytes → verdict town bytes ≡ Accepted (Optimal cost)
-judged-accepted town bytes cost (records, judged, inl second) = version-accepted town version_2 records cost bytes refl refl refl (omega arith) judged second
-judged-accepted town bytes cost (records, judged, inr (small, first)) = version-accepted town version_1 records cost bytes refl refl (ap (λ b. cond b (Some version_1.limit) None) small) (omega arith) judged first
+-- a proof that is judged, each record and its end, is accepted
+pub judged-accepted : (town : Town) (bytes : List ℕ) (end : End) → IsJudgedProof town end bytes → verdict town bytes ≡ Accepted end
+judged-accepted town bytes (Optimal cost) (records, judged, last, inl second) = version-accepted town version_2 records cost bytes refl refl refl (omega arith) judged second
+judged-accepted town bytes (Optimal cost) (records, judged, last, inr (small, first)) = version-accepted town version_1 records cost bytes refl refl (ap (λ b. cond b (Some version_1.limit) None) small) (omega arith) judged first
+judged-accepted town bytes Infeasible (records, judged, last, proved) = absurd (false≢true last)
+judged-accepted town bytes (Unfinished low high) (records, judged, last, proved) = absurd (false≢true last)

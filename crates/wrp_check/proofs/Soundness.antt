@@ -1,14 +1,15 @@
 -- Bytes that the checker accepts are a proof.
-use Rattle.std.proofs.Common.{inl, inr, ◌⊎◌, ◌≡◌, ℕ, ◌+◌, ◌≤◌, ◌^◌, Bool, true, false, cond, ◌&&◌, ◌==◌, nat_lt, List, [], ◌∷◌, ◌++◌, length, fold, Option, None, Some, is_none, Result, Ok, Err, refl, sym, ap, ◌∙◌, subst, arith, length-append, append_assoc}
+use Rattle.std.proofs.Common.{inl, inr, ◌⊎◌, ◌≡◌, ℕ, ◌+◌, ◌≤◌, ◌^◌, Bool, true, false, cond, ◌&&◌, ◌==◌, nat_lt, List, [], ◌∷◌, ◌++◌, length, fold, Option, None, Some, is_none, Result, Ok, Err, refl, sym, ap, ◌∙◌, subst, arith, length-append, append_assoc, zero-add}
 use Rattle.std.specs.List.{AllByRecursion, join_with_byte}
 use Rattle.std.specs.Str.{bytes_eq}
-use Rattle.std.proofs.lemmas.Bool.{and_parts, and_from, or_parts, eqb-true, ltb-false}
+use Rattle.std.proofs.lemmas.Bool.{and_parts, and_from, or_parts, eqb-true, ltb-false, false≢true}
 use Rattle.std.proofs.lemmas.List.Splits.{join_with_byte-slice_split}
 use Rattle.std.proofs.lemmas.Slice.Eq.{bytes_eq-Decides}
 use Rattle.wrp_town.specs.declared.town.Town.{Town}
 use Rattle.wrp_town.specs.Arcs.{is_small}
 use Rattle.wrp_rules.specs.declared.record.Record.{Record}
 use Rattle.wrp_rules.specs.declared.record.End.{End}
+use Rattle.wrp_rules.specs.declared.record.End.TheVariants.{Optimal, Infeasible, Unfinished}
 use Rattle.wrp_rules.specs.declared.rule.Rule.{Rule}
 use Rattle.wrp_rules.specs.declared.rule.Rule.TheVariants as rules
 use Rattle.wrp_rules.specs.Nodes.{Standing, start, after}
@@ -24,9 +25,11 @@ use Rattle.wrp_proof.proofs.SpelledLaws.{spelled_viewed, spelled-end_line, judge
 use Rattle.wrp_laws.specs.Ends.{EndHolds}
 use Rattle.wrp_laws.proofs.JudgedEnds.{proved_end}
 use Rattle.wrp_check.specs.Streams.{most_bytes}
-use Rattle.wrp_check.specs.Verdicts.{Verdict, Accepted, Refused, Long, unless, judged_record, judged_line, agreeing_end, judged_end, is_end, is_long, end_verdict, record_verdict, verdict_from, limit_of, version_verdict, first_verdict, over_lines, verdict}
+use Rattle.wrp_check.specs.JudgedLines.{unless, judged_record, judged_line, agreeing_end, judged_end, is_end, is_judged_end}
+use Rattle.wrp_check.specs.Verdicts.{Verdict, Accepted, Refused, Long, Stage, First, Next, Over, Place, is_long, is_too_long, limit_of, stage_of, next_stage, last_stage, stage_behind, behind, step, last_step, unended_rule, follow, verdict_along, first_place, over_lines, verdict}
 use Rattle.wrp_check.specs.Accepted.{IsJudgedProof}
 use Rattle.wrp_check.proofs.LineCuts.{lines_of}
+use Rattle.wrp_check.proofs.VerdictSteps.{place_behind, behind_records, after_end}
 
 -- ---- choices
 
@@ -57,10 +60,6 @@ ok_value x y h = cc
 
 none_bad : {A : Type 0} (x : A) → None ≡ Some x → ⊥
 none_bad x h = cc
-
-empty : {A : Type 0} (xs : List A) → (length xs == 0) ≡ true → xs ≡ []
-empty [] h = refl
-empty (x ∷ xs) h = absurd (omega (arith, eqb-true (length (x ∷ xs)) 0 h))
 
 -- ---- lines that are judged
 
@@ -96,31 +95,54 @@ agreeing_ok s fault (Some other) end h =
     let same = ok_value other end both.1 in
     (ap Some same, subst (λ x. agrees s x ≡ true) same both.0)
 
-end_ok : (s : Standing) (line : List ℕ) (end : End) → judged_end s line ≡ Ok end → (end_line end ≡ line) × (agrees s end ≡ true)
+-- an end whose line is none of a later kind is judged
+not_later : (end : End) → is_later_end (end_line end) ≡ false → is_judged_end end ≡ true
+not_later (Optimal cost) h = refl
+not_later Infeasible h = absurd (false≢true (sym h))
+not_later (Unfinished low high) h = absurd (false≢true (sym h))
+
+-- the line is that of an end that agrees and is judged
+record IsEndLine (s : Standing) (line : List ℕ) (end : End) : Type 0 where
+  text : end_line end ≡ line
+  agreeing : agrees s end ≡ true
+  judged : is_judged_end end ≡ true
+
+end_ok : (s : Standing) (line : List ℕ) (end : End) → judged_end s line ≡ Ok end → IsEndLine s line end
 end_ok s line end h =
     let fault = cond (has_end_shape line) rules.Number rules.Form in
-    let found = agreeing_ok s fault (spelled_end line) end (chosen (is_later_end line) (Err rules.Later) (agreeing_end s fault (spelled_end line)) (Ok end) (err_bad rules.Later end) h).1 in
-    ((spelled-end_line line end found.0).text, found.1)
+    let tried = chosen (is_later_end line) (Err rules.Later) (agreeing_end s fault (spelled_end line)) (Ok end) (err_bad rules.Later end) h in
+    let found = agreeing_ok s fault (spelled_end line) end tried.1 in
+    let text = (spelled-end_line line end found.0).text in
+    record { text = text; agreeing = found.1; judged = not_later end (subst (λ bytes. is_later_end bytes ≡ false) (sym text) tried.0) }
 
--- an accepted end line: nothing stands behind it
-record IsLastLine (answer : Result End Rule) (end : End) (next : List ℕ) (others : List (List ℕ)) : Type 0 where
-  is : answer ≡ Ok end
-  no_line : next ≡ []
-  no_others : others ≡ []
+-- ---- steps that are taken
 
-last_ok : (number taken : ℕ) (answer : Result End Rule) (next : List ℕ) (others : List (List ℕ)) (end : End) → end_verdict number taken answer next others ≡ Accepted end → IsLastLine answer end next others
-last_ok number taken (Err rule) next others end h = absurd (refused_bad number rule end h)
-last_ok number taken (Ok other) next others end h =
-    let alone = guarded ((length next == 0) && (length others == 0)) (Accepted other) (cond (taken == most_bytes) Long (Refused (number + 1) rules.After)) (Accepted end) (behind (taken == most_bytes)) h in
-    let both = and_parts (length next == 0) (length others == 0) alone.0 in
-    record { is = ap Ok (value alone.1); no_line = empty next both.0; no_others = empty others both.1 }
+-- a step behind which the verdict accepts: the line is not too long and breaks no rule
+record IsStep (town : Town) (place : Place) (line : List ℕ) (verdict_at : Place → Verdict) (end : End) : Type 0 where
+  short : is_too_long place.stage place.taken line (length line + 1) ≡ false
+  stage : Stage
+  is : stage_behind town place.stage line ≡ Ok stage
+  said : verdict_at (place_behind place line stage) ≡ Accepted end
+
+step_ok : (town : Town) (place : Place) (line : List ℕ) (verdict_at : Place → Verdict) (end : End) → follow verdict_at (step town place line) ≡ Accepted end → IsStep town place line verdict_at end
+step_ok town place line verdict_at end h = by (is_too_long place.stage place.taken line (length line + 1)) refl (stage_behind town place.stage line) refl h
   where
-    behind : (b : Bool) → cond b Long (Refused (number + 1) rules.After) ≡ Accepted end → ⊥
-    behind true e = cc
-    behind false e = cc
+    by : (long : Bool) → is_too_long place.stage place.taken line (length line + 1) ≡ long → (answer : Result Stage Rule) → stage_behind town place.stage line ≡ answer → follow verdict_at (cond long (Err Long) (behind place line answer)) ≡ Accepted end → IsStep town place line verdict_at end
+    by true long answer is h = absurd (long_bad end h)
+    by false short (Err rule) is h = absurd (refused_bad place.line rule end h)
+    by false short (Ok stage) is h = record { short = short; stage = stage; is = is; said = h }
 
-    value : Accepted other ≡ Accepted end → other ≡ end
-    value e = cc
+-- nothing stands behind an end that is accepted
+over_ok : (town : Town) (other : End) (number taken : ℕ) (next : List ℕ) (others : List (List ℕ)) (end : End) → verdict_along town (after_end other number taken) next others ≡ Accepted end → (other ≡ end) × (next ≡ []) × (others ≡ [])
+unfolding verdict_along
+over_ok town other number taken [] [] end h = let same : other ≡ end = (cc) in (same, refl, refl)
+over_ok town other number taken (byte ∷ next) [] end h = absurd (by (taken == most_bytes) h)
+  where
+    by : (b : Bool) → cond b Long (Refused number rules.After) ≡ Accepted end → ⊥
+    by true e = cc
+    by false e = cc
+over_ok town other number taken next (line ∷ others) end h =
+    absurd (err_bad rules.After (step_ok town (after_end other number taken) next (λ place. verdict_along town place line others) end h).stage (step_ok town (after_end other number taken) next (λ place. verdict_along town place line others) end h).is)
 
 -- ---- all lines
 
@@ -131,6 +153,7 @@ pub record Proves (town : Town) (limit : ℕ) (s : Standing) (taken : ℕ) (end 
   pub valid : goes_on town s records ≡ true
   pub judged : go_on_judged town s records ≡ true
   pub agreeing : agrees (fold (after town) s records) end ≡ true
+  pub last : is_judged_end end ≡ true
   pub lines : AllByRecursion (λ item. length (line_of item) ≤ limit) records
   pub whole : taken + length bytes ≤ 2 ^ 40
 
@@ -145,11 +168,11 @@ abbrev joined : List (List ℕ) → List ℕ
 joined lines = join_with_byte 10 lines
 
 -- an end line alone
-ends_here : (town : Town) (limit : ℕ) (s : Standing) (taken : ℕ) (end : End) (line next : List ℕ) (others : List (List ℕ)) → is_long limit taken line (length line + 1) ≡ false → IsLastLine (judged_end s line) end next others → Proves town limit s taken end (line ++ 10 ∷ joined (next ∷ others))
-ends_here town limit s taken end line next others short last =
-    let found = end_ok s line end last.is in
-    let none : joined (next ∷ others) ≡ [] = ap (λ first. joined (first ∷ others)) last.no_line ∙ ap (λ lines. joined ([] ∷ lines)) last.no_others in
-    let text : line ++ 10 ∷ joined (next ∷ others) ≡ ended (end_line end) = ap (λ rest. line ++ 10 ∷ rest) none ∙ ap ended (sym found.0) in
+ends_here : (town : Town) (limit : ℕ) (s : Standing) (taken : ℕ) (end : End) (line next : List ℕ) (others : List (List ℕ)) → is_long limit taken line (length line + 1) ≡ false → judged_end s line ≡ Ok end → next ≡ [] → others ≡ [] → Proves town limit s taken end (line ++ 10 ∷ joined (next ∷ others))
+ends_here town limit s taken end line next others short is no_line no_others =
+    let found = end_ok s line end is in
+    let none : joined (next ∷ others) ≡ [] = ap (λ first. joined (first ∷ others)) no_line ∙ ap (λ lines. joined ([] ∷ lines)) no_others in
+    let text : line ++ 10 ∷ joined (next ∷ others) ≡ ended (end_line end) = ap (λ rest. line ++ 10 ∷ rest) none ∙ ap ended (sym found.text) in
     let fits = within limit taken (length line + 1) line short in
     let all = length-append line (10 ∷ joined (next ∷ others)) in
     let rest = ap length none in
@@ -158,7 +181,8 @@ ends_here town limit s taken end line next others short last =
       text = text;
       valid = refl;
       judged = refl;
-      agreeing = found.1;
+      agreeing = found.agreeing;
+      last = found.judged;
       lines = tt;
       whole = omega (arith, fits.1, all, rest);
     }
@@ -179,31 +203,36 @@ goes_before town limit s taken end line bytes item short found rest =
       valid = and_from (is_none (broken_rule town s item)) (goes_on town (after town s item) rest.records) (ap is_none found.unbroken) rest.valid;
       judged = and_from (is_judged town s item) (go_on_judged town (after town s item) rest.records) found.judged rest.judged;
       agreeing = rest.agreeing;
+      last = rest.last;
       lines = (subst (λ text. length text ≤ limit) (sym found.text) fits.0, rest.lines);
       whole = omega (arith, all, whole);
     }
 
--- a record's verdict is that of what follows
-record_ok_next : (number : ℕ) (next : Record → Verdict) (answer : Result Record Rule) (end : End) → record_verdict number next answer ≡ Accepted end → (item : Record) × (answer ≡ Ok item) × (next item ≡ Accepted end)
-record_ok_next number next (Err rule) end h = absurd (refused_bad number rule end h)
-record_ok_next number next (Ok item) end h = (item, refl, h)
+-- the line is of an end or of a record
+end_or_record : (town : Town) (limit : ℕ) (s : Standing) (ends : Bool) (answer : Result End Rule) (judged : Result Record Rule) (stage : Stage) → cond ends (last_stage answer) (next_stage town limit s judged) ≡ Ok stage → ((end : End) × (answer ≡ Ok end) × (stage ≡ Over end)) ⊎ ((item : Record) × (judged ≡ Ok item) × (stage ≡ Next limit (after town s item)))
+end_or_record town limit s true (Ok end) judged stage h = inl (end, refl, sym (ok_value (Over end) stage h))
+end_or_record town limit s true (Err rule) judged stage h = absurd (err_bad rule stage h)
+end_or_record town limit s false answer (Ok item) stage h = inr (item, refl, sym (ok_value (Next limit (after town s item)) stage h))
+end_or_record town limit s false answer (Err rule) stage h = absurd (err_bad rule stage h)
 
-one_line : (town : Town) (limit : ℕ) (s : Standing) (number taken : ℕ) (end : End) (line next : List ℕ) (others : List (List ℕ)) → (ends : Bool) (answer : Record → Verdict) → ((item : Record) → answer item ≡ Accepted end → Proves town limit (after town s item) (taken + (length line + 1)) end (joined (next ∷ others))) → is_long limit taken line (length line + 1) ≡ false → cond ends (end_verdict number (taken + (length line + 1)) (judged_end s line) next others) (record_verdict number answer (judged_line town s line)) ≡ Accepted end → Proves town limit s taken end (line ++ 10 ∷ joined (next ∷ others))
-one_line town limit s number taken end line next others true answer go short h =
-    ends_here town limit s taken end line next others short (last_ok number (taken + (length line + 1)) (judged_end s line) next others end h)
-one_line town limit s number taken end line next others false answer go short h =
-    let found = record_ok_next number answer (judged_line town s line) end h in
-    goes_before town limit s taken end line (joined (next ∷ others)) found.0 short (line_ok town s line found.0 found.1) (go found.0 found.2)
+one_line : (town : Town) (limit : ℕ) (s : Standing) (number taken : ℕ) (line next : List ℕ) (others : List (List ℕ)) (end : End) → ((item : Record) → verdict_along town (behind_records limit (after town s item) (number + 1) (taken + (length line + 1))) next others ≡ Accepted end → Proves town limit (after town s item) (taken + (length line + 1)) end (joined (next ∷ others))) → IsStep town (behind_records limit s number taken) line (λ place. verdict_along town place next others) end → Proves town limit s taken end (line ++ 10 ∷ joined (next ∷ others))
+one_line town limit s number taken line next others end go taken_step = by (end_or_record town limit s (is_end line) (judged_end s line) (judged_line town s line) taken_step.stage taken_step.is)
+  where
+    by : ((last : End) × (judged_end s line ≡ Ok last) × (taken_step.stage ≡ Over last)) ⊎ ((item : Record) × (judged_line town s line ≡ Ok item) × (taken_step.stage ≡ Next limit (after town s item))) → Proves town limit s taken end (line ++ 10 ∷ joined (next ∷ others))
+    by (inl (last, judged, is)) =
+        let over = over_ok town last (number + 1) (taken + (length line + 1)) next others end (subst (λ stage. verdict_along town (place_behind (behind_records limit s number taken) line stage) next others ≡ Accepted end) is taken_step.said) in
+        ends_here town limit s taken end line next others taken_step.short (judged ∙ ap Ok over.0) over.1 over.2
+    by (inr (item, judged, is)) =
+        goes_before town limit s taken end line (joined (next ∷ others)) item taken_step.short (line_ok town s line item judged)
+        (go item (subst (λ stage. verdict_along town (place_behind (behind_records limit s number taken) line stage) next others ≡ Accepted end) is taken_step.said))
 
-pub lines_accepted : (town : Town) (limit : ℕ) (s : Standing) (number taken : ℕ) (line : List ℕ) (lines : List (List ℕ)) (end : End) → verdict_from town limit s number taken line lines ≡ Accepted end → Proves town limit s taken end (joined (line ∷ lines))
-unfolding verdict_from
+pub lines_accepted : (town : Town) (limit : ℕ) (s : Standing) (number taken : ℕ) (line : List ℕ) (lines : List (List ℕ)) (end : End) → verdict_along town (behind_records limit s number taken) line lines ≡ Accepted end → Proves town limit s taken end (joined (line ∷ lines))
+unfolding verdict_along
 lines_accepted town limit s number taken line [] end h = absurd (refused_bad number rules.Missing end (chosen (is_long limit taken line (length line)) Long (Refused number rules.Missing) (Accepted end) (long_bad end) h).1)
 lines_accepted town limit s number taken line (next ∷ others) end h =
-    let t = taken + (length line + 1) in
-    let answer : Record → Verdict = λ item. verdict_from town limit (after town s item) (number + 1) t next others in
-    let found = chosen (is_long limit taken line (length line + 1)) Long (cond (is_end line) (end_verdict number t (judged_end s line) next others) (record_verdict number answer (judged_line town s line))) (Accepted end) (long_bad end) h in
-    one_line town limit s number taken end line next others (is_end line) answer
-    (λ item e. lines_accepted town limit (after town s item) (number + 1) t next others end e) found.0 found.1
+    one_line town limit s number taken line next others end
+    (λ item said. lines_accepted town limit (after town s item) (number + 1) (taken + (length line + 1)) next others end said)
+    (step_ok town (behind_records limit s number taken) line (λ place. verdict_along town place next others) end h)
 
 -- ---- the version line
 
@@ -242,46 +271,41 @@ proof_by town version end line bytes limit taken own same_limit same_line proves
     }
 
 judged_by : (town : Town) (end : End) (line bytes : List ℕ) (limit : ℕ) → IsVersion town line limit → Proves town limit (start town) (length line + 1) end bytes → IsJudgedProof town end (line ++ 10 ∷ bytes)
-judged_by town end line bytes limit named proves = (proves.records, proves.judged, by_version named.version)
+judged_by town end line bytes limit named proves = (proves.records, proves.judged, proves.last, by_version named.version)
   where
     by_version : (limit ≡ version_2.limit) × (line ≡ version_2.line) ⊎ ((is_small town ≡ true) × (limit ≡ version_1.limit) × (line ≡ version_1.line)) → IsProofBy town version_2 proves.records end (line ++ 10 ∷ bytes) ⊎ ((is_small town ≡ true) × IsProofBy town version_1 proves.records end (line ++ 10 ∷ bytes))
     by_version (inl second) = inl (proof_by town version_2 end line bytes limit (length line + 1) refl second.0 second.1 proves)
     by_version (inr first) = inr (first.0, proof_by town version_1 end line bytes limit (length line + 1) refl first.1 first.2 proves)
 
-version_ok : (next : ℕ → Verdict) (answer : Option ℕ) (end : End) → version_verdict next answer ≡ Accepted end → (limit : ℕ) × (answer ≡ Some limit) × (next limit ≡ Accepted end)
-version_ok next None end h = absurd (refused_bad 1 rules.Start end h)
-version_ok next (Some limit) end h = (limit, refl, h)
+version_ok : (town : Town) (answer : Option ℕ) (stage : Stage) → stage_of town answer ≡ Ok stage → (limit : ℕ) × (answer ≡ Some limit) × (stage ≡ Next limit (start town))
+version_ok town None stage h = absurd (err_bad rules.Start stage h)
+version_ok town (Some limit) stage h = (limit, refl, sym (ok_value (Next limit (start town)) stage h))
 
-first_accepted : (town : Town) (line : List ℕ) (lines : List (List ℕ)) (end : End) → first_verdict town line lines ≡ Accepted end → IsJudgedProof town end (joined (line ∷ lines))
-unfolding first_verdict
+first_accepted : (town : Town) (line : List ℕ) (lines : List (List ℕ)) (end : End) → verdict_along town first_place line lines ≡ Accepted end → IsJudgedProof town end (joined (line ∷ lines))
+unfolding verdict_along
 first_accepted town line [] end h = absurd (refused_bad 1 rules.Missing end (chosen (is_long version_1.limit 0 line (length line)) Long (Refused 1 rules.Missing) (Accepted end) (long_bad end) h).1)
 first_accepted town line (next ∷ others) end h =
-    let answer : ℕ → Verdict = λ limit. verdict_from town limit (start town) 2 (length line + 1) next others in
-    let short = chosen (is_long version_1.limit 0 line (length line + 1)) Long (version_verdict answer (limit_of town line)) (Accepted end) (long_bad end) h in
-    let found = version_ok answer (limit_of town line) end short.1 in
+    let taken_step = step_ok town first_place line (λ place. verdict_along town place next others) end h in
+    let found = version_ok town (limit_of town line) taken_step.stage taken_step.is in
     judged_by town end line (joined (next ∷ others)) found.0 (limit_is town line found.0 found.1)
-    (lines_accepted town found.0 (start town) 2 (length line + 1) next others end found.2)
+    (subst (λ taken. Proves town found.0 (start town) taken end (joined (next ∷ others))) (zero-add (length line + 1))
+    (lines_accepted town found.0 (start town) 2 (0 + (length line + 1)) next others end
+    (subst (λ stage. verdict_along town (place_behind first_place line stage) next others ≡ Accepted end) found.2 taken_step.said)))
 
 -- ---- whole proofs
 
--- bytes that the checker accepts are a proof, each record of which is judged
+-- bytes that the checker accepts are a proof that is judged, each record and the end
 pub verdict-judged : (town : Town) (bytes : List ℕ) (end : End) → verdict town bytes ≡ Accepted end → IsJudgedProof town end bytes
 verdict-judged town bytes end h =
     let lines = lines_of bytes in
-    let first = first_accepted town lines.first lines.others end (sym (ap (over_lines (first_verdict town)) lines.are) ∙ h) in
+    let first = first_accepted town lines.first lines.others end (sym (ap (over_lines (verdict_along town first_place)) lines.are) ∙ h) in
     subst (IsJudgedProof town end) (ap joined (sym lines.are) ∙ join_with_byte-slice_split 10 bytes) first
 
 -- so they are a proof
 pub judged-proof : (town : Town) (end : End) (bytes : List ℕ) → IsJudgedProof town end bytes → IsProof town end bytes
-judged-proof town end bytes (records, judged, proved) = (records, proved)
-
-pub verdict-proof : (town : Town) (bytes : List ℕ) (end : End) → verdict town bytes ≡ Accepted end → IsProof town end bytes
-verdict-proof town bytes end h = judged-proof town end bytes (verdict-judged town bytes end h)
+judged-proof town end bytes (records, judged, last, proved) = (records, proved)
 
 -- and its end holds
 pub judged-holds : (town : Town) (end : End) (bytes : List ℕ) → IsJudgedProof town end bytes → EndHolds town end
-judged-holds town end bytes (records, judged, inl second) = proved_end town version_2 records end bytes second judged
-judged-holds town end bytes (records, judged, inr (small, first)) = proved_end town version_1 records end bytes first judged
-
-pub verdict-holds : (town : Town) (bytes : List ℕ) (end : End) → verdict town bytes ≡ Accepted end → EndHolds town end
-verdict-holds town bytes end h = judged-holds town end bytes (verdict-judged town bytes end h)
+judged-holds town end bytes (records, judged, last, inl second) = proved_end town version_2 records end bytes second judged
+judged-holds town end bytes (records, judged, last, inr (small, first)) = proved_end town version_1 records end bytes first judged

@@ -1,4 +1,5 @@
 pub mod Streams
+pub mod JudgedLines
 pub mod Verdicts
 pub mod Accepted
 pub mod Pools

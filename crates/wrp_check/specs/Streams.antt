@@ -1,58 +1,55 @@
 -- A proof as it is read from a source: line by line, with some bytes of the next lines read ahead.
-use Rattle.std.specs.Prelude.{◌≡◌, ℕ, ◌+◌, ◌-◌, ◌<◌, ◌≤◌, ◌^◌, ◌⊎◌, min, Bool, not, ◌==◌, List, [], ◌∷◌, ◌++◌, length, Option}
+use Rattle.std.specs.Prelude.{◌≡◌, ℕ, ◌+◌, ◌-◌, ◌<◌, ◌≤◌, ◌^◌, ◌⊎◌, ◌↔◌, min, Bool, true, not, ◌==◌, IsTrue, List, [], ◌∷◌, ◌++◌, length, take, drop, Option}
 use Rattle.std.specs.Option.{option_map}
 use Rattle.std.specs.List.{list_all, prefix_len}
-use Rattle.wrp_out.specs.Told.{Tells, Took}
+use Rattle.wrp_out.specs.Outside.{Input, Tells, Took}
 use Rattle.wrp_check.specs.declared.lines.Ending.{Ending}
-use Rattle.wrp_check.specs.declared.lines.Ending.TheVariants.{Feed, Input}
-
--- the bytes read ahead, the line read last, and how many bytes have been handed out in lines so far
-pub record Reading : Type 0 where
-  pub pending : List ℕ
-  pub line : List ℕ
-  pub taken : ℕ
-
--- the pending bytes stand in the chunk, which has room for a byte; no more bytes were taken than a proof may have, and
--- with the pending ones at most one more
-pub record IsWithin (at end size taken : ℕ) : Type 0 where
-  pub in_order : at ≤ end
-  pub inside : end ≤ size
-  pub room : 0 < size
-  pub most : taken ≤ 2 ^ 40
-  pub asked : taken + (end - at) ≤ 2 ^ 40 + 1
+use Rattle.wrp_check.specs.declared.lines.Ending.TheVariants as endings
 
 -- the greatest number of bytes of a proof
 abbrev pub most_bytes : ℕ
 most_bytes = 2 ^ 40
 
--- at most so many bytes were taken from a source
-abbrev pub TookAtMost : ℕ → Option (List ℕ) → Option (List ℕ) → Type 0
-TookAtMost most old new = (piece : List ℕ) × Took old new piece × (length piece ≤ most)
+-- ---- the reader
+
+-- the bytes read ahead, the line read last, and how many bytes have been handed out in lines so far
+pub record Buffered : Type 0 where
+  pub pending : List ℕ
+  pub line : List ℕ
+  pub taken : ℕ
+
+-- the pending bytes stand in the chunk, which has room for a byte; no more bytes were taken than a
+-- proof may have, and with the pending ones at most one more
+pub record IsWithin (at end size taken : ℕ) : Type 0 where
+  pub in_order : at ≤ end
+  pub inside : end ≤ size
+  pub room : 0 < size
+  pub most : taken ≤ most_bytes
+  pub asked : taken + (end - at) ≤ most_bytes + 1
 
 -- how many bytes the reader has had from its source: those handed out and those read ahead
-abbrev pub drawn : Reading → ℕ
-drawn reading = reading.taken + length reading.pending
+abbrev pub drawn : Buffered → ℕ
+drawn lines = lines.taken + length lines.pending
 
--- the reader drew these bytes from the source, and in all at most one more than a proof may have
-pub record Draws (told_old told_new : Option (List ℕ)) (old new : Reading) : Type 0 where
+-- the reader drew bytes from its source, and in all at most one more than a proof may have
+pub record Draws (old new : Buffered) (before after : Input) : Type 0 where
   pub piece : List ℕ
-  pub took : Took told_old told_new piece
+  pub took : Took before after piece
   pub counted : drawn new ≡ drawn old + length piece
   pub most : drawn new ≤ most_bytes + 1
 
--- what is left to hand out: the bytes read ahead and then those of the source, where it tells them
-abbrev pub left_in : Option (List ℕ) → Reading → Option (List ℕ)
-left_in told reading = option_map (λ left. reading.pending ++ left) told
+-- all that the reader drew from its source since the first byte
+pub record HasDrawn (lines : Buffered) (first now : Input) : Type 0 where
+  pub piece : List ℕ
+  pub took : Took first now piece
+  pub counted : drawn lines ≡ length piece
+  pub most : drawn lines ≤ most_bytes + 1
 
--- the bytes that end a line: a line feed, or none at the end of the input
-abbrev pub ending_bytes : Ending → List ℕ
-ending_bytes Feed = 10 ∷ []
-ending_bytes Input = []
+-- the input as it is handed out: the bytes read ahead and then those of the source
+abbrev pub ahead : Buffered → Input → Input
+ahead lines source = record source { left = option_map (λ left. lines.pending ++ left) source.left }
 
--- where the line ended with the input, nothing is left
-abbrev pub EndsAsSaid : Ending → Option (List ℕ) → Type 0
-EndsAsSaid Feed left = Unit {0}
-EndsAsSaid Input left = Tells left []
+-- ---- lines
 
 -- no byte of the line is a line feed
 abbrev pub is_one_line : List ℕ → Bool
@@ -62,6 +59,51 @@ is_one_line line = list_all (λ byte. not (byte == 10)) line
 abbrev pub line_len : List ℕ → ℕ
 line_len bytes = prefix_len (λ byte. not (byte == 10)) bytes
 
--- the first line of the bytes is longer than the limit, or with its line feed passes the end of a longest proof
+-- the first line of the bytes is above the limit, or with its line feed passes the greatest number
 abbrev pub PassesLimit : ℕ → ℕ → List ℕ → Type 0
-PassesLimit limit taken bytes = (limit < line_len bytes) ⊎ (most_bytes < taken + min (line_len bytes + 1) (length bytes))
+PassesLimit limit taken bytes =
+    (limit < line_len bytes) ⊎ (most_bytes < taken + min (line_len bytes + 1) (length bytes))
+
+-- a line and what ended it: a line feed, or the end of the input
+abbrev pub ended_by : Ending → List ℕ → List ℕ
+ended_by endings.Feed line = line ++ 10 ∷ []
+ended_by endings.Input line = line
+
+-- where a line ended with the input, nothing is left
+abbrev pub EndsAsSaid : Ending → Input → Type 0
+EndsAsSaid endings.Feed input = Unit {0}
+EndsAsSaid endings.Input input = Tells input.left []
+
+-- the next line was handed out, of at most so many bytes without its line feed
+pub record HandsOut (limit : ℕ) (ending : Ending) (old new : Buffered) (before after : Input)
+    : Type 0 where
+  pub took : Took (ahead old before) (ahead new after) (ended_by ending new.line)
+  pub one_line : is_one_line new.line ≡ true
+  pub within : length new.line ≤ limit
+  pub taken : new.taken ≡ old.taken + length (ended_by ending new.line)
+  pub most : new.taken ≤ most_bytes
+  pub end : EndsAsSaid ending (ahead new after)
+
+-- nothing was handed out; a byte is pending, or nothing is left
+pub record Peeks (more : Bool) (old new : Buffered) (before after : Input) : Type 0 where
+  pub nothing : Took (ahead old before) (ahead new after) []
+  pub line : new.line ≡ old.line
+  pub taken : new.taken ≡ old.taken
+  pub pending : IsTrue more ↔ (0 < length new.pending)
+  pub end : ¬ IsTrue more → Tells (ahead new after).left []
+
+-- the pending bytes up to their first line feed, or all, are the next part of a line of at most so
+-- many bytes; the line feed is taken too
+pub record TakesPiece (limit : ℕ) (feed : Bool) (old new : Buffered) : Type 0 where
+  pub line : new.line ≡ old.line ++ take (line_len old.pending) old.pending
+  pub pending : new.pending ≡ drop (line_len old.pending + 1) old.pending
+  pub taken : new.taken ≡ old.taken + min (line_len old.pending + 1) (length old.pending)
+  pub most : new.taken ≤ most_bytes
+  pub within : length new.line ≤ limit
+  pub has_feed : IsTrue feed ↔ (line_len old.pending < length old.pending)
+
+-- the next part makes the line longer than the limit, or passes the greatest number of bytes
+abbrev pub PieceTooLong : ℕ → Buffered → Type 0
+PieceTooLong limit old =
+    (limit < length old.line + line_len old.pending)
+    ⊎ (most_bytes < old.taken + min (line_len old.pending + 1) (length old.pending))

@@ -1,8 +1,10 @@
--- What the checker says of the bytes of a proof: the end that they prove, or the first line that breaks a rule and the first
--- rule that it breaks, or that a line or the whole is too long.
-use Rattle.std.specs.Prelude.{◌≡◌, ℕ, ◌+◌, Bool, ◌&&◌, ◌||◌, if◌then◌else◌, ◌==◌, nat_lt, nat_eq, codes, List, [], ◌∷◌, length, Option, None, Some, Result, Ok, Err}
-use Rattle.std.specs.List.{slice_split, starts_with}
+-- What the checker says of the bytes of a proof: the end that they prove, or the first line that
+-- breaks a rule and the first rule that it breaks, or that a line or the whole is too long. Each
+-- line is one step from a place to the next, or to the verdict.
+use Rattle.std.specs.Prelude.{◌≡◌, ℕ, ◌+◌, Bool, ◌&&◌, ◌||◌, if◌then◌else◌, ◌==◌, nat_lt, List, [], ◌∷◌, length, Option, None, Some, Result, Ok, Err, IfSome}
+use Rattle.std.specs.List.{slice_split}
 use Rattle.std.specs.Str.{bytes_eq}
+use Rattle.wrp_out.specs.Outside.{Input}
 use Rattle.wrp_town.specs.declared.town.Town.{Town}
 use Rattle.wrp_town.specs.Arcs.{is_small}
 use Rattle.wrp_rules.specs.declared.record.Record.{Record}
@@ -10,15 +12,11 @@ use Rattle.wrp_rules.specs.declared.record.End.{End}
 use Rattle.wrp_rules.specs.declared.rule.Rule.{Rule}
 use Rattle.wrp_rules.specs.declared.rule.Rule.TheVariants as rules
 use Rattle.wrp_rules.specs.Nodes.{Standing, start, after}
-use Rattle.wrp_rules.specs.Lists.{agrees}
-use Rattle.wrp_rules.specs.Judged.{judged_rule}
-use Rattle.wrp_proof.specs.Views.{is_later, spelled}
-use Rattle.wrp_grammar.specs.Shapes.{has_shape}
-use Rattle.wrp_proof.specs.Ends.{is_later_end, has_end_shape, spelled_end}
 use Rattle.wrp_rules.specs.Proofs.{version_1, version_2}
 use Rattle.wrp_check.specs.declared.pass.CheckFault.{CheckFault}
 use Rattle.wrp_check.specs.declared.pass.CheckFault.TheVariants as faults
 use Rattle.wrp_check.specs.Streams.{most_bytes}
+use Rattle.wrp_check.specs.JudgedLines.{judged_line, judged_end, is_end}
 
 -- the end, the line and its rule, or too long
 pub data Verdict : Type 0 where
@@ -26,67 +24,20 @@ pub data Verdict : Type 0 where
   Refused : (line : ℕ) (rule : Rule) → Verdict
   Long : Verdict
 
--- a value, unless a rule is broken
-abbrev pub unless : {X : Type 0} → Option Rule → X → Result X Rule
-unless None value = Ok value
-unless (Some rule) value = Err rule
+-- what comes next: the version line; the line of a record or of the end, of at most so many bytes,
+-- behind what stands; or nothing more, behind the end
+pub data Stage : Type 0 where
+  First : Stage
+  Next : (limit : ℕ) (s : Standing) → Stage
+  Over : (end : End) → Stage
 
--- the record that a line spells, unless it breaks a rule after what stands; the fault of a line that spells none
-abbrev pub judged_record : Town → Standing → Rule → Option Record → Result Record Rule
-judged_record town s fault None = Err fault
-judged_record town s fault (Some item) = unless (judged_rule town s item) item
+-- where the pass stands: what comes next, the number of the line, and how many bytes are before it
+pub record Place : Type 0 where
+  pub stage : Stage
+  pub line : ℕ
+  pub taken : ℕ
 
-abbrev pub judged_line : Town → Standing → List ℕ → Result Record Rule
-judged_line town s line =
-    if is_later line then Err rules.Later
-    else judged_record town s (if has_shape line then rules.Number else rules.Form) (spelled line)
-
--- the end that a line spells, unless it disagrees with what stands
-abbrev pub agreeing_end : Standing → Rule → Option End → Result End Rule
-agreeing_end s fault None = Err fault
-agreeing_end s fault (Some end) = if agrees s end then Ok end else Err rules.End
-
-abbrev pub judged_end : Standing → List ℕ → Result End Rule
-judged_end s line =
-    if is_later_end line then Err rules.Later
-    else agreeing_end s (if has_end_shape line then rules.Number else rules.Form) (spelled_end line)
-
--- a line that begins with `end` is read as an end line
-abbrev pub is_end : List ℕ → Bool
-is_end line = starts_with nat_eq line (codes "end")
-
--- the line is above its limit, or so many bytes before it and its own pass the greatest number
-abbrev pub is_long : ℕ → ℕ → List ℕ → ℕ → Bool
-is_long limit taken line own = nat_lt limit (length line) || nat_lt most_bytes (taken + own)
-
--- the last line, which has no line feed
-abbrev pub last_verdict : ℕ → ℕ → ℕ → List ℕ → Verdict
-last_verdict limit number taken line = if is_long limit taken line (length line) then Long else Refused number rules.Missing
-
--- what comes behind the line feed of the end line: nothing may
-abbrev pub verdict_behind : ℕ → ℕ → End → List ℕ → List (List ℕ) → Verdict
-verdict_behind number taken end line others =
-    if (length line == 0) && (length others == 0) then Accepted end
-    else if taken == most_bytes then Long
-    else Refused number rules.After
-
-abbrev pub end_verdict : ℕ → ℕ → Result End Rule → List ℕ → List (List ℕ) → Verdict
-end_verdict number taken (Err rule) line others = Refused number rule
-end_verdict number taken (Ok end) line others = verdict_behind (number + 1) taken end line others
-
-abbrev pub record_verdict : ℕ → (Record → Verdict) → Result Record Rule → Verdict
-record_verdict number next (Err rule) = Refused number rule
-record_verdict number next (Ok item) = next item
-
--- the lines from this one on, of this number, after so many bytes
-unfoldable pub verdict_from : Town → ℕ → Standing → ℕ → ℕ → List ℕ → List (List ℕ) → Verdict
-verdict_from town limit s number taken line [] = last_verdict limit number taken line
-verdict_from town limit s number taken line (next ∷ others) =
-    if is_long limit taken line (length line + 1) then Long
-    else if is_end line then end_verdict number (taken + (length line + 1)) (judged_end s line) next others
-    else record_verdict number
-    (λ item. verdict_from town limit (after town s item) (number + 1) (taken + (length line + 1)) next others)
-    (judged_line town s line)
+-- ---- one line
 
 -- the limit of the lines that a version line sets
 abbrev pub limit_of : Town → List ℕ → Option ℕ
@@ -95,16 +46,71 @@ limit_of town line =
     else if bytes_eq line version_1.line && is_small town then Some version_1.limit
     else None
 
-abbrev pub version_verdict : (ℕ → Verdict) → Option ℕ → Verdict
-version_verdict next None = Refused 1 rules.Start
-version_verdict next (Some limit) = next limit
+abbrev pub stage_of : Town → Option ℕ → Result Stage Rule
+stage_of town None = Err rules.Start
+stage_of town (Some limit) = Ok (Next limit (start town))
 
--- all lines, from the version line on
-unfoldable pub first_verdict : Town → List ℕ → List (List ℕ) → Verdict
-first_verdict town line [] = last_verdict version_1.limit 1 0 line
-first_verdict town line (next ∷ others) =
-    if is_long version_1.limit 0 line (length line + 1) then Long
-    else version_verdict (λ limit. verdict_from town limit (start town) 2 (length line + 1) next others) (limit_of town line)
+-- behind the line of a record and behind an end line
+abbrev pub next_stage : Town → ℕ → Standing → Result Record Rule → Result Stage Rule
+next_stage town limit s (Ok item) = Ok (Next limit (after town s item))
+next_stage town limit s (Err rule) = Err rule
+
+abbrev pub last_stage : Result End Rule → Result Stage Rule
+last_stage (Ok end) = Ok (Over end)
+last_stage (Err rule) = Err rule
+
+-- what comes behind the next line, or the rule that this line breaks
+abbrev pub stage_behind : Town → Stage → List ℕ → Result Stage Rule
+stage_behind town First line = stage_of town (limit_of town line)
+stage_behind town (Next limit s) line =
+    if is_end line then last_stage (judged_end s line)
+    else next_stage town limit s (judged_line town s line)
+stage_behind town (Over end) line = Err rules.After
+
+-- a line is above its limit, or so many bytes before it and its own pass the greatest number
+abbrev pub is_long : ℕ → ℕ → List ℕ → ℕ → Bool
+is_long limit taken line own = nat_lt limit (length line) || nat_lt most_bytes (taken + own)
+
+-- the next line is too long; behind the end the first byte is one too many
+abbrev pub is_too_long : Stage → ℕ → List ℕ → ℕ → Bool
+is_too_long First taken line own = is_long version_1.limit taken line own
+is_too_long (Next limit s) taken line own = is_long limit taken line own
+is_too_long (Over end) taken line own = taken == most_bytes
+
+-- the place behind a line with its line feed
+abbrev pub behind : Place → List ℕ → Result Stage Rule → Result Place Verdict
+behind place line (Ok stage) =
+    Ok (record { stage = stage; line = place.line + 1; taken = place.taken + (length line + 1) })
+behind place line (Err rule) = Err (Refused place.line rule)
+
+-- one step: a line with its line feed leads to the next place, or decides the verdict
+abbrev pub step : Town → Place → List ℕ → Result Place Verdict
+step town place line =
+    if is_too_long place.stage place.taken line (length line + 1) then Err Long
+    else behind place line (stage_behind town place.stage line)
+
+-- the rule that a line breaks by having no line feed
+abbrev pub unended_rule : Stage → Rule
+unended_rule (Over end) = rules.After
+unended_rule stage = rules.Missing
+
+-- the last step: what stands behind the last line feed decides the verdict
+abbrev pub last_step : Stage → ℕ → ℕ → List ℕ → Verdict
+last_step (Over end) number taken [] = Accepted end
+last_step stage number taken line =
+    if is_too_long stage taken line (length line) then Long else Refused number (unended_rule stage)
+
+-- ---- all lines
+
+abbrev pub follow : (Place → Verdict) → Result Place Verdict → Verdict
+follow verdict_at (Ok place) = verdict_at place
+follow verdict_at (Err said) = said
+
+-- one step after the other
+unfoldable pub verdict_along : Town → Place → List ℕ → List (List ℕ) → Verdict
+verdict_along town place line [] = last_step place.stage place.line place.taken line
+verdict_along town place line (next ∷ others) =
+    follow (λ behind. verdict_along town behind next others) (step town place line)
 
 -- the lines of these bytes: what stands between line feeds
 abbrev pub is_feed : ℕ → Bool
@@ -117,12 +123,17 @@ abbrev pub over_lines : (List ℕ → List (List ℕ) → Verdict) → List (Lis
 over_lines verdict_of [] = verdict_of [] []
 over_lines verdict_of (line ∷ others) = verdict_of line others
 
--- what the checker says of these bytes behind what stands, and of a whole proof
-abbrev pub verdict_on : Town → ℕ → Standing → ℕ → ℕ → List ℕ → Verdict
-verdict_on town limit s number taken bytes = over_lines (verdict_from town limit s number taken) (lines_in bytes)
+-- what the checker says of these bytes from a place on, and of a whole proof
+abbrev pub verdict_on : Town → Place → List ℕ → Verdict
+verdict_on town place bytes = over_lines (verdict_along town place) (lines_in bytes)
+
+abbrev pub first_place : Place
+first_place = record { stage = First; line = 1; taken = 0 }
 
 abbrev pub verdict : Town → List ℕ → Verdict
-verdict town bytes = over_lines (first_verdict town) (lines_in bytes)
+verdict town bytes = verdict_on town first_place bytes
+
+-- ---- the answer
 
 -- the answer is this verdict, unless memory or a read failed
 abbrev pub FaultIs : CheckFault → Verdict → Type 0
@@ -134,3 +145,8 @@ FaultIs faults.Memory said = Unit {0}
 abbrev pub AnswerIs : Result End CheckFault → Verdict → Type 0
 AnswerIs (Ok end) said = said ≡ Accepted end
 AnswerIs (Err fault) said = FaultIs fault said
+
+-- a fault is the verdict on what an input has left, where it tells that
+abbrev pub FaultOn : Town → Place → Input → CheckFault → Type 0
+FaultOn town place input fault =
+    IfSome input.left (λ bytes. FaultIs fault (verdict_on town place bytes))

@@ -11,4 +11,4 @@ mod pass;
 mod pool;
 mod tour;
 
-pub use pass::{CheckFault, check};
+pub use pass::{CheckFault, check, verdict_laws};

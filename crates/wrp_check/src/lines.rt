@@ -1,9 +1,8 @@
 //! A reader of the lines of a source, which holds one line and a chunk of the bytes behind it.
-ghost use Rattle.std.specs.Prelude.{◌≡◌, ◌≢◌, ◌+◌, ◌-◌, ◌<◌, ◌≤◌, ◌^◌, ◌⊎◌, ◌↔◌, List, [], ◌++◌, length, take, drop, min, position, ◌==◌, true, not, IsTrue, IfOk, IfSome, OnOk, OnErr, IsErrOf, nat_lt};
-ghost use Rattle.wrp_out.specs.Counts.{NeverFalls, Rose};
-ghost use Rattle.wrp_out.specs.Told.{Tells, Took};
-ghost use Rattle.wrp_check.specs.Streams.{Draws, EndsAsSaid, PassesLimit, drawn, ending_bytes, is_one_line, left_in, line_len, most_bytes};
-ghost use Rattle.wrp_check.specs.declared.lines.LineFault.TheVariants.{TooLong, Read, Memory};
+ghost use Rattle.std.specs.Prelude.{◌≡◌, ◌≢◌, ◌+◌, ◌-◌, ◌<◌, ◌≤◌, ◌^◌, ◌⊎◌, [], length, take, min, position, ◌==◌, IsTrue, IfOk, IfSome, OnErr, IsErrOf};
+ghost use Rattle.wrp_out.specs.Outside.{Tells, Took, FaultRose, ReadFailed};
+ghost use Rattle.wrp_check.specs.Streams.{Draws, HandsOut, PassesLimit, Peeks, PieceTooLong, TakesPiece, ahead, drawn, line_len, most_bytes};
+ghost use Rattle.wrp_check.specs.declared.lines.LinesFault.TheVariants.{TooLong, Read, Memory};
 
 use std::alloc::{AllocError, Global};
 use std::marker::Model;
@@ -13,7 +12,7 @@ use wrp_out::{Failed, Source};
 const CHUNK_BYTES: usize = 65_536;
 
 /// The greatest number of bytes of an input.
-const MOST_BYTES: u64 = 1_099_511_627_776;
+const MOST_BYTES: u64 = 1 << 40;
 
 /// How a line of the input ended.
 #[derive(Clone, Copy, Debug, PartialEq, Eq)]
@@ -26,7 +25,7 @@ pub(crate) enum Ending {
 
 /// Why a line was not read.
 #[derive(Debug, Drop)]
-pub(crate) enum LineFault {
+pub(crate) enum LinesFault {
     /// The line passes its limit, or the input passes the greatest number of bytes.
     TooLong,
     /// The source failed.
@@ -35,19 +34,19 @@ pub(crate) enum LineFault {
     Memory,
 }
 
-impl From<AllocError> for LineFault {
+impl From<AllocError> for LinesFault {
     ghost from_gives = { λ _ fault. fault ≡ Memory };
 
-    fn from(_: AllocError) -> LineFault {
-        LineFault::Memory
+    fn from(_: AllocError) -> LinesFault {
+        LinesFault::Memory
     }
 }
 
-impl From<Failed> for LineFault {
+impl From<Failed> for LinesFault {
     ghost from_gives = { λ _ fault. fault ≡ Read };
 
-    fn from(_: Failed) -> LineFault {
-        LineFault::Read
+    fn from(_: Failed) -> LinesFault {
+        LinesFault::Read
     }
 }
 
@@ -66,11 +65,15 @@ pub(crate) struct Lines {
 
 impl Model for Lines {
     ghost use Rattle.std.specs.Prelude.{◌-◌, ◌<◌, ◌≤◌, length, take, drop};
-    ghost use Rattle.wrp_check.specs.Streams.{IsWithin, Reading, most_bytes};
+    ghost use Rattle.wrp_check.specs.Streams.{IsWithin, Buffered};
 
-    ghost Value = { Reading };
+    ghost Value = { Buffered };
 
-    ghost view = { λ l. record { pending = take (l.end - l.at) (drop l.at l.chunk.items); line = l.line.items; taken = l.taken } };
+    ghost view = { λ l. record {
+      pending = take (l.end - l.at) (drop l.at l.chunk.items);
+      line = l.line.items;
+      taken = l.taken;
+    } };
 
     ghost invariant = { λ l. IsWithin l.at l.end (length l.chunk.items) l.taken };
 }
@@ -103,27 +106,14 @@ impl Lines {
         &mut self,
         source: &mut P,
         limit: u64,
-    ) -> Result<Ending, LineFault>
+    ) -> Result<Ending, LinesFault>
         requires { limit ≤ 2 ^ 28 }
-        ensures took { IfOk result (λ ending. Took (left_in (P.left source.old) self.old)
-            (left_in (P.left source.new) self.new) (self.new.line ++ ending_bytes ending)) }
-        ensures one_line { OnOk result (is_one_line self.new.line ≡ true) }
-        ensures within { OnOk result (length self.new.line ≤ limit) }
-        ensures taken { IfOk result (λ ending.
-            self.new.taken ≡ self.old.taken + length (self.new.line ++ ending_bytes ending)) }
-        ensures most { OnOk result (self.new.taken ≤ most_bytes) }
-        ensures end { IfOk result (λ ending. EndsAsSaid ending (left_in (P.left source.new) self.new)) }
-
-        // Where the bytes are told, `TooLong` and success exclude one another.
-        ensures too_long { IsErrOf result TooLong → IfSome (left_in (P.left source.old) self.old)
-            (λ bytes. PassesLimit limit self.old.taken bytes) }
-        ensures passes { OnOk result (IfSome (left_in (P.left source.old) self.old)
-            (λ bytes. ¬ PassesLimit limit self.old.taken bytes)) }
-
-        // What was read, also in vain.
-        ensures draws { Draws (P.left source.old) (P.left source.new) self.old self.new }
-        ensures read { IsErrOf result Read → Rose (P.faults source.old) (P.faults source.new) }
-        ensures faults { NeverFalls (P.faults source.old) (P.faults source.new) }
+        ensures line { IfOk result (λ ending.
+            HandsOut limit ending self.old self.new (P.input source.old) (P.input source.new)) }
+        ensures too_long { IsErrOf result TooLong
+            → IfSome (ahead self.old (P.input source.old)).left (PassesLimit limit self.old.taken) }
+        ensures read { IsErrOf result Read → FaultRose (P.input source.old) (P.input source.new) }
+        ensures draws { Draws self.old self.new (P.input source.old) (P.input source.new) }
     {
         self.line.clear();
         while self.is_ready(source)? {
@@ -137,40 +127,32 @@ impl Lines {
     /// Whether a byte is left in the input. It takes none.
     ///
     /// After an error the reader is of no more use.
-    pub(crate) fn has_more<P: Source>(&mut self, source: &mut P) -> Result<bool, LineFault>
-        ensures same { OnOk result (left_in (P.left source.new) self.new ≡ left_in (P.left source.old) self.old) }
-        ensures line { OnOk result (self.new.line ≡ self.old.line) }
-        ensures taken { OnOk result (self.new.taken ≡ self.old.taken) }
-        ensures more { IfOk result (λ more. IfSome (left_in (P.left source.old) self.old)
-            (λ bytes. IsTrue more ↔ (bytes ≢ []))) }
+    pub(crate) fn has_more<P: Source>(&mut self, source: &mut P) -> Result<bool, LinesFault>
+        ensures more { IfOk result (λ more.
+            Peeks more self.old self.new (P.input source.old) (P.input source.new)) }
         ensures below { IfOk result (λ more. IsTrue more → self.old.taken < most_bytes) }
 
         // A byte is left, and the input has the greatest number of bytes without it.
         ensures too_long { IsErrOf result TooLong → (self.old.taken ≡ most_bytes)
-            × IfSome (left_in (P.left source.old) self.old) (λ bytes. bytes ≢ []) }
-        ensures draws { Draws (P.left source.old) (P.left source.new) self.old self.new }
-        ensures read { IsErrOf result Read → Rose (P.faults source.old) (P.faults source.new) }
+            × IfSome (ahead self.old (P.input source.old)).left (λ bytes. bytes ≢ []) }
+        ensures read { IsErrOf result Read → FaultRose (P.input source.old) (P.input source.new) }
         ensures memory { IsErrOf result Memory → ⊥ }
-        ensures faults { NeverFalls (P.faults source.old) (P.faults source.new) }
+        ensures draws { Draws self.old self.new (P.input source.old) (P.input source.new) }
     {
         let more = self.is_ready(source)?;
         if more && self.taken == MOST_BYTES {
-            return Err(LineFault::TooLong);
+            return Err(LinesFault::TooLong);
         }
         Ok(more)
     }
 
     /// Reads a chunk where nothing is pending. Answers whether a byte is pending then.
     fn is_ready<P: Source>(&mut self, source: &mut P) -> Result<bool, Failed>
-        ensures same { OnOk result (left_in (P.left source.old) self.old ≡ left_in (P.left source.new) self.new) }
-        ensures line { OnOk result (self.new.line ≡ self.old.line) }
-        ensures taken { OnOk result (self.new.taken ≡ self.old.taken) }
+        ensures ready { IfOk result (λ ready.
+            Peeks ready self.old self.new (P.input source.old) (P.input source.new)) }
         ensures most { self.old.taken ≤ most_bytes }
-        ensures ready { IfOk result (λ ready. IsTrue ready ↔ (0 < length self.new.pending)) }
-        ensures end { IfOk result (λ ready. ¬ IsTrue ready → Tells (left_in (P.left source.new) self.new) []) }
-        ensures draws { Draws (P.left source.old) (P.left source.new) self.old self.new }
-        ensures read { OnErr result (Rose (P.faults source.old) (P.faults source.new)) }
-        ensures faults { NeverFalls (P.faults source.old) (P.faults source.new) }
+        ensures read { OnErr result (FaultRose (P.input source.old) (P.input source.new)) }
+        ensures draws { Draws self.old self.new (P.input source.old) (P.input source.new) }
     {
         if self.at < self.end {
             return Ok(true);
@@ -178,18 +160,14 @@ impl Lines {
         self.fill(source)
     }
 
-    /// Reads a chunk in place of the last one, of which nothing is pending. Answers whether a byte came.
+    /// Reads a chunk in place of the last one, of which nothing is pending. Answers whether a byte
+    /// came.
     fn fill<P: Source>(&mut self, source: &mut P) -> Result<bool, Failed>
         requires { length self.old.pending ≡ 0 }
-        ensures took { OnOk result (Took (P.left source.old) (P.left source.new) self.new.pending) }
-        ensures line { OnOk result (self.new.line ≡ self.old.line) }
-        ensures taken { OnOk result (self.new.taken ≡ self.old.taken) }
-        ensures came { IfOk result (λ came. IsTrue came ↔ (0 < length self.new.pending)) }
-        ensures end { IfOk result (λ came. ¬ IsTrue came → Tells (P.left source.old) []) }
-        ensures asked { OnOk result (self.old.taken + length self.new.pending ≤ most_bytes + 1) }
-        ensures draws { Draws (P.left source.old) (P.left source.new) self.old self.new }
-        ensures read { OnErr result (Rose (P.faults source.old) (P.faults source.new)) }
-        ensures faults { NeverFalls (P.faults source.old) (P.faults source.new) }
+        ensures came { IfOk result (λ came.
+            Peeks came self.old self.new (P.input source.old) (P.input source.new)) }
+        ensures read { OnErr result (FaultRose (P.input source.old) (P.input source.new)) }
+        ensures draws { Draws self.old self.new (P.input source.old) (P.input source.new) }
     {
         let room = room_for(self.chunk.len(), self.taken);
         let count = read_front(source, &mut self.chunk, room)?;
@@ -200,18 +178,11 @@ impl Lines {
 
     /// Moves the pending bytes up to the first line feed, or all of them, to the end of the line.
     /// Answers whether there was a line feed, which is taken too.
-    fn take_piece(&mut self, limit: u64) -> Result<bool, LineFault>
+    fn take_piece(&mut self, limit: u64) -> Result<bool, LinesFault>
         requires limit { limit ≤ 2 ^ 28 }
         requires within { length self.old.line ≤ limit }
-        ensures line { OnOk result (self.new.line ≡ self.old.line ++ take (line_len self.old.pending) self.old.pending) }
-        ensures pending { OnOk result (self.new.pending ≡ drop (line_len self.old.pending + 1) self.old.pending) }
-        ensures taken { OnOk result (self.new.taken ≡ self.old.taken
-            + min (line_len self.old.pending + 1) (length self.old.pending)) }
-        ensures most { OnOk result (self.new.taken ≤ most_bytes) }
-        ensures within { OnOk result (length self.new.line ≤ limit) }
-        ensures feed { IfOk result (λ feed. IsTrue feed ↔ (line_len self.old.pending < length self.old.pending)) }
-        ensures too_long { IsErrOf result TooLong → (limit < length self.old.line + line_len self.old.pending)
-            ⊎ (most_bytes < self.old.taken + min (line_len self.old.pending + 1) (length self.old.pending)) }
+        ensures piece { IfOk result (λ feed. TakesPiece limit feed self.old self.new) }
+        ensures too_long { IsErrOf result TooLong → PieceTooLong limit self.old }
         ensures drawn { drawn self.new ≡ drawn self.old }
         ensures read { IsErrOf result Read → ⊥ }
     {
@@ -219,10 +190,10 @@ impl Lines {
         let count = line_length(pending);
         let size = (count + 1).min(pending.len());
         if limit < (self.line.len() + count) as u64 {
-            return Err(LineFault::TooLong);
+            return Err(LinesFault::TooLong);
         }
         if MOST_BYTES - self.taken < size as u64 {
-            return Err(LineFault::TooLong);
+            return Err(LinesFault::TooLong);
         }
         let has_feed = count < pending.len();
         self.line.extend_from_slice(&pending[..count])?;
@@ -237,11 +208,10 @@ fn read_front<P: Source>(source: &mut P, chunk: &mut [u8], room: usize) -> Resul
     requires some { 0 < room }
     requires inside { room ≤ length chunk.old }
     ensures fits { IfOk result (λ count. count ≤ room) }
-    ensures took { IfOk result (λ count. Took (P.left source.old) (P.left source.new) (take count chunk.new)) }
-    ensures end { IfOk result (λ count. count ≡ 0 → Tells (P.left source.old) []) }
-    ensures kept { OnErr result (P.left source.new ≡ P.left source.old) }
-    ensures read { OnErr result (Rose (P.faults source.old) (P.faults source.new)) }
-    ensures faults { NeverFalls (P.faults source.old) (P.faults source.new) }
+    ensures took { IfOk result (λ count.
+        Took (P.input source.old) (P.input source.new) (take count chunk.new)) }
+    ensures end { IfOk result (λ count. count ≡ 0 → Tells (P.input source.old).left []) }
+    ensures failed { OnErr result (ReadFailed (P.input source.old) (P.input source.new)) }
 {
     source.read(&mut chunk[..room])
 }
@@ -282,7 +252,7 @@ fn feed_at(bytes: &[u8]) -> Option<usize>
 
 #[cfg(test)]
 mod tests {
-    use super::{Ending, LineFault, Lines};
+    use super::{Ending, Lines, LinesFault};
     use std::test::Fail;
     use wrp_out::{MemSource, SteadySource};
 
@@ -305,9 +275,9 @@ mod tests {
     fn a_line_may_be_too_long_or_fail(rt: HostRuntime) -> Result<(), Fail> {
         let mut source = MemSource::new(rt.alloc(), b"rural\npost", &[2])?;
         let mut lines = Lines::new(rt.alloc())?;
-        assert!(rt; matches!(lines.next(&mut source, 4), Err(LineFault::TooLong)));
+        assert!(rt; matches!(lines.next(&mut source, 4), Err(LinesFault::TooLong)));
         let mut others = Lines::new(rt.alloc())?;
-        assert!(rt; matches!(others.next(&mut source, 4), Err(LineFault::Read)));
+        assert!(rt; matches!(others.next(&mut source, 4), Err(LinesFault::Read)));
         Ok(())
     }
 }

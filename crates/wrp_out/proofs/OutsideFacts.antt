@@ -27,9 +27,12 @@ took_then {a} {b} {c} {xs} {ys} one two = record {
   faults = never_falls_then a.faults b.faults c.faults one.faults two.faults;
 }
 
--- what was taken before a read failed
+-- what was taken before nothing more was, and before a read failed
+pub took_no_more : {a b c : Input} {xs : List ℕ} → Took a b xs → Took b c [] → Took a c xs
+took_no_more one two = rw append-nil at (took_then one two)
+
 pub took_failed : {a b c : Input} {xs : List ℕ} → Took a b xs → ReadFailed b c → Took a c xs
-took_failed one two = rw append-nil at (took_then one two.nothing)
+took_failed one two = took_no_more one two.nothing
 
 -- where what was taken leaves these bytes, both were left before
 pub took_all : {a b : Input} {xs : List ℕ} (ys : List ℕ) → Took a b xs → Tells b.left ys → Tells a.left (xs ++ ys)

@@ -1,23 +1,32 @@
-use Rattle.std.proofs.Common.{◌≡◌, [], None, refl, ap}
-use Rattle.wrp_check.proofs.Passing.{fresh, whole_answer, end_answer, fault_answer}
-use Rattle.wrp_check.specs.Streams.{drawn}
-use Rattle.wrp_check.proofs.Drawing.{draws_then, draws_at_most}
+use Rattle.std.proofs.Common.{refl}
+use Rattle.wrp_check.proofs.Drawing.{drawn_then, drawn_at_most}
+use Rattle.wrp_check.proofs.Passing.{reaches_more, reaches_end, nothing_left}
 use Rattle.wrp_check.proofs.pass.judge_proof.Goals as goal
 
-pub returns-clause-whole : goal.returns-clause-whole
-returns-clause-whole g c =
-    let bare : c.in_ok-lines.lines.pending ≡ [] = ap (λ reading. reading.pending) c.in_ok-lines.ensures in
-    whole_answer c.args.town.now c.in-Ok.limit _ _ _ c.read_version.new.lines.taken c.in_ok-judge.judge c.judge_lines.result c.in_ok-judge.ensures _ (fresh _ c.in_ok-lines.lines bare) c.in-Ok.ensures.begins c.judge_lines.ensures.closes
+pub lines-preserved : goal.lines-preserved
+lines-preserved g c =
+    let told = rw c.in-Ok-None.field-0-is at c.in-Ok-None.ensures in
+    let reached = c.lines.invariant.reached in
+    record {
+      under_way = (told.moves refl).under_way;
+      reached = reaches_more c.args.town.now _ _ _ _ _ reached (told.steps reached.s reached.stands);
+      drawn = drawn_then c.lines.invariant.drawn c.step.ensures.draws;
+    }
 
-pub returns-clause-end : goal.returns-clause-end
-returns-clause-end g c =
-    end_answer c.args.town.now c.in-Ok.limit None _ _ c.read_version.new.lines.taken c.in_ok-judge.judge c.judge_lines.result c.in_ok-judge.ensures _ c.judge_lines.new.lines refl c.judge_lines.ensures.closes
+pub returns-in-Ok-Some-clause-whole : goal.returns-in-Ok-Some-clause-whole
+returns-in-Ok-Some-clause-whole g c =
+    let told = rw c.in-Ok-Some.field-0-is at c.in-Ok-Some.ensures in
+    let reached = c.lines.invariant.reached in
+    reaches_end c.args.town.now _ _ _ _ _ _ reached (told.steps reached.s reached.stands)
 
-pub returns-clause-fault : goal.returns-clause-fault
-returns-clause-fault g c =
-    let bare : c.in_ok-lines.lines.pending ≡ [] = ap (λ reading. reading.pending) c.in_ok-lines.ensures in
-    fault_answer c.args.town.now c.in-Ok.limit _ _ None c.read_version.new.lines.taken c.in_ok-judge.judge c.judge_lines.result c.in_ok-judge.ensures _ (fresh _ c.in_ok-lines.lines bare) c.in-Ok.ensures.begins c.judge_lines.ensures.fault
+pub returns-in-Ok-Some-clause-end : goal.returns-in-Ok-Some-clause-end
+returns-in-Ok-Some-clause-end g c =
+    let told = rw c.in-Ok-Some.field-0-is at c.in-Ok-Some.ensures in
+    let reached = c.lines.invariant.reached in
+    nothing_left c.step.new.self.lines (g.P.Source.input c.step.new.proof) (told.steps reached.s reached.stands).empty
 
-pub returns-clause-taken : goal.returns-clause-taken
-returns-clause-taken g c =
-    draws_at_most _ _ _ _ (ap drawn c.in_ok-lines.ensures) (draws_then _ _ _ _ _ _ c.read_version.ensures.draws c.judge_lines.ensures.draws)
+pub returns-in-Ok-Some-clause-taken : goal.returns-in-Ok-Some-clause-taken
+returns-in-Ok-Some-clause-taken g c = drawn_at_most (drawn_then c.lines.invariant.drawn c.step.ensures.draws)
+
+pub returns-in-Err-step-clause-taken : goal.returns-in-Err-step-clause-taken
+returns-in-Err-step-clause-taken g c = drawn_at_most (drawn_then c.lines.invariant.drawn c.step.ensures.draws)
