@@ -1,90 +1,65 @@
 -- What a status that was told says of the run.
-use Rattle.std.proofs.Common.{ℕ, ◌⊎◌, inl, inr, Bool, true, false, nat_lt, List, length, Option, None, Some, IfSome, Result, Ok, Err, sym, subst}
-use Rattle.wrp_out.specs.Counts.{Rose}
-use Rattle.wrp_out.specs.Told.{Gained, GainedPrefix}
-use Rattle.wrp_town.specs.declared.town.Town.{Town}
-use Rattle.wrp_street.specs.declared.table.TableFault.{TableFault}
-use Rattle.wrp_street.specs.Tables.{Table, table_of}
-use Rattle.wrp_rules.specs.declared.record.End.{End}
-use Rattle.wrp_check.specs.Verdicts.{Verdict, verdict}
-use Rattle.wrp_check.specs.Verdicts as verdicts
+use Rattle.std.proofs.Common.{◌≡◌, ◌⊎◌, inl, inr, ℕ, List, Option, None, Some, IfSome, refl, sym, subst}
+use Rattle.wrp_out.specs.Outside.{Output, Gained}
 use Rattle.wrp_postman.specs.declared.status.Status.{Status}
-use Rattle.wrp_postman.specs.declared.status.Status.TheVariants.{Accepted, WriteFault, Memory}
-use Rattle.wrp_postman.specs.Runs.{AnswersVerdict, AnswersTable, AnswersLength, AnswersCheck, IsOfCheck, after_fault, status_line, Told, IsWritten, table_bytes}
+use Rattle.wrp_postman.specs.declared.status.Status.TheVariants.{Accepted, Usage, WriteFault, Memory}
+use Rattle.wrp_postman.specs.Words.{Command, Check}
+use Rattle.wrp_postman.specs.Statuses.{accepted_line, status_line}
+use Rattle.wrp_postman.specs.Runs.{Outside, FindsCheck, IsCut, Answers, AnswersCheck, AnswersUsage, WritesLine, after_cut, CutsAcceptance, Told}
 
--- want of memory answers every check
-free_verdict : (said : Verdict) → AnswersVerdict said Memory
-free_verdict (verdicts.Accepted end) = tt
-free_verdict (verdicts.Refused line rule) = tt
-free_verdict verdicts.Long = tt
+-- the line of a status was written whole, or cut, or it has none
+module _ (old new : Output) where
+  whole_or_cut : (told : Option (List ℕ)) (line : List ℕ) → told ≡ Some line → (Gained old new line ⊎ IsCut old new line) → IfSome told (λ l. Gained old new l ⊎ IsCut old new l)
+  whole_or_cut told line is written = rw is written
 
-free_text : (town : Town) (proof : Option (List ℕ)) → IfSome proof (λ bytes. AnswersVerdict (verdict town bytes) Memory)
-free_text town None = tt
-free_text town (Some bytes) = free_verdict (verdict town bytes)
+  none_missing : (told : Option (List ℕ)) → told ≡ None → IfSome told (λ l. Gained old new l ⊎ IsCut old new l)
+  none_missing told is = rw is tt
 
-free_table : (found : Result Table TableFault) (proof : Option (List ℕ)) → AnswersTable found proof Memory
-free_table (Err fault) proof = tt
-free_table (Ok table) proof = λ town same. free_text town proof
+  pub line_written : (status : Status) (line : List ℕ) → status_line status ≡ Some line → Gained old new line → WritesLine status old new
+  line_written (Accepted end) line is gained = let same : line ≡ accepted_line end = cc in subst (Gained old new) same gained
+  line_written status line is gained = whole_or_cut (status_line status) line is (inl gained)
 
-free_length : (is_long : Bool) (table : List ℕ) (proof : Option (List ℕ)) → AnswersLength is_long table proof Memory
-free_length true table proof = tt
-free_length false table proof = free_table (table_of table) proof
+  pub line_cut : (status : Status) (line : List ℕ) → status_line status ≡ Some line → IsCut old new line → Told status (after_cut status) old new
+  line_cut (Accepted end) line is cut = let same : line ≡ accepted_line end = cc in inr (refl, subst (IsCut old new) same cut)
+  line_cut status line is cut = inl (refl, whole_or_cut (status_line status) line is (inr cut))
 
-free_check : (streets proof : Option (List ℕ)) → AnswersCheck streets proof Memory
-free_check None proof = tt
-free_check (Some table) proof = free_length (nat_lt table_bytes (length table)) table proof
+  pub line_missing : (status : Status) → status_line status ≡ None → WritesLine status old new
+  line_missing (Accepted end) is = cc
+  line_missing status is = none_missing (status_line status) is
 
--- where an acceptance answers, so does the fault of writing its line
-fault_verdict : (said : Verdict) (end : End) → AnswersVerdict said (Accepted end) → AnswersVerdict said WriteFault
-fault_verdict (verdicts.Accepted other) end h = tt
-fault_verdict (verdicts.Refused line rule) end h = cc
-fault_verdict verdicts.Long end h = cc
+  line_of_told : (status answer : Status) → Told status answer old new → WritesLine answer old new
+  line_of_told status answer (inl (same, written)) = subst (λ (s : Status). WritesLine s old new) (sym same) written
+  line_of_told status answer (inr (same, cut)) = subst (λ (s : Status). WritesLine s old new) (sym same) tt
 
-fault_text : (town : Town) (proof : Option (List ℕ)) (end : End) → IfSome proof (λ bytes. AnswersVerdict (verdict town bytes) (Accepted end)) → IfSome proof (λ bytes. AnswersVerdict (verdict town bytes) WriteFault)
-fault_text town None end h = tt
-fault_text town (Some bytes) end h = fault_verdict (verdict town bytes) end h
+  pub line_told : (status answer : Status) → (Told status answer old new ⊎ Told Memory answer old new) → WritesLine answer old new
+  line_told status answer (inl told) = line_of_told status answer told
+  line_told status answer (inr told) = line_of_told Memory answer told
 
-fault_table : (found : Result Table TableFault) (proof : Option (List ℕ)) (end : End) → AnswersTable found proof (Accepted end) → AnswersTable found proof WriteFault
-fault_table (Err fault) proof end h = cc
-fault_table (Ok table) proof end h = λ town same. fault_text town proof end (h town same)
+  usage_of_told : (status answer : Status) → AnswersUsage status → Told status answer old new → AnswersUsage answer
+  usage_of_told status answer right (inl (same, written)) = subst AnswersUsage (sym same) right
+  usage_of_told Usage answer right (inr (same, cut)) = absurd cut
+  usage_of_told Memory answer right (inr (same, cut)) = absurd cut
+  usage_of_told status answer right (inr (same, cut)) = absurd right
 
-fault_length : (is_long : Bool) (table : List ℕ) (proof : Option (List ℕ)) (end : End) → AnswersLength is_long table proof (Accepted end) → AnswersLength is_long table proof WriteFault
-fault_length true table proof end h = cc
-fault_length false table proof end h = fault_table (table_of table) proof end h
+  pub usage_told : (answer : Status) → (Told Usage answer old new ⊎ Told Memory answer old new) → AnswersUsage answer
+  usage_told answer (inl told) = usage_of_told Usage answer tt told
+  usage_told answer (inr told) = usage_of_told Memory answer tt told
 
-fault_check : (streets proof : Option (List ℕ)) (end : End) → AnswersCheck streets proof (Accepted end) → AnswersCheck streets proof WriteFault
-fault_check None proof end h = tt
-fault_check (Some table) proof end h = fault_length (nat_lt table_bytes (length table)) table proof end h
+-- what a check found, once it was told, is its answer
+module _ (old new : Outside) where
+  found_answers : (status : Status) → FindsCheck status old.sources new.sources → AnswersCheck status old new
+  found_answers WriteFault (inl ends) = absurd ends
+  found_answers WriteFault (inr (town, table, judged)) = absurd judged
+  found_answers status found = found
 
--- the status after a fault of writing its line still answers
-after_check : (streets proof : Option (List ℕ)) (status : Status) → AnswersCheck streets proof status → AnswersCheck streets proof (after_fault status)
-after_check streets proof (Accepted end) h = fault_check streets proof end h
-after_check streets proof status h = h
+  cut_answers : (status : Status) → FindsCheck status old.sources new.sources → CutsAcceptance status old.out new.out → AnswersCheck WriteFault old new
+  cut_answers (Accepted end) found cut = (end, found, cut)
+  cut_answers status found cut = absurd cut
 
-module _ (old new : Option (List ℕ)) (faults_old faults_new empties_old empties_new : ℕ) where
-  told_check : (streets proof : Option (List ℕ)) (status answer : Status) → AnswersCheck streets proof status → Told status answer old new faults_old faults_new empties_old empties_new → AnswersCheck streets proof answer
-  told_check streets proof status answer h (inl (same, gained)) = subst (AnswersCheck streets proof) (sym same) h
-  told_check streets proof status answer h (inr (same, part, rose)) = subst (AnswersCheck streets proof) (sym same) (after_check streets proof status h)
+  answer_of_told : (status answer : Status) → FindsCheck status old.sources new.sources → Told status answer old.out new.out → AnswersCheck answer old new
+  answer_of_told status answer found (inl (same, written)) = subst (λ (s : Status). AnswersCheck s old new) (sym same) (found_answers status found)
+  answer_of_told status answer found (inr (same, cut)) = subst (λ (s : Status). AnswersCheck s old new) (sym same) (cut_answers status found cut)
 
-  pub check_told : (streets proof : Option (List ℕ)) (status answer : Status) → AnswersCheck streets proof status → (Told status answer old new faults_old faults_new empties_old empties_new ⊎ Told Memory answer old new faults_old faults_new empties_old empties_new) → AnswersCheck streets proof answer
-  check_told streets proof status answer h (inl told) = told_check streets proof status answer h told
-  check_told streets proof status answer h (inr told) = told_check streets proof Memory answer (free_check streets proof) told
-
-  -- the line that was written whole, and in part
-  whole_line : (status : Status) → IsOfCheck status → Gained old new (status_line status) → IsWritten status old new faults_old faults_new empties_old empties_new
-  whole_line (Accepted end) kind gained = gained
-  whole_line WriteFault kind gained = absurd kind
-  whole_line status kind gained = inl gained
-
-  part_line : (status : Status) → IsOfCheck status → GainedPrefix old new (status_line status) → (Rose faults_old faults_new ⊎ Rose empties_old empties_new) → IsWritten (after_fault status) old new faults_old faults_new empties_old empties_new
-  part_line (Accepted end) kind part rose = (end, part)
-  part_line WriteFault kind part rose = absurd kind
-  part_line status kind part rose = inr (part, rose)
-
-  told_line : (status answer : Status) → IsOfCheck status → Told status answer old new faults_old faults_new empties_old empties_new → IsWritten answer old new faults_old faults_new empties_old empties_new
-  told_line status answer kind (inl (same, gained)) = subst (λ (s : Status). IsWritten s old new faults_old faults_new empties_old empties_new) (sym same) (whole_line status kind gained)
-  told_line status answer kind (inr (same, part, rose)) = subst (λ (s : Status). IsWritten s old new faults_old faults_new empties_old empties_new) (sym same) (part_line status kind part rose)
-
-  pub line_told : (status answer : Status) → IsOfCheck status → (Told status answer old new faults_old faults_new empties_old empties_new ⊎ Told Memory answer old new faults_old faults_new empties_old empties_new) → IsWritten answer old new faults_old faults_new empties_old empties_new
-  line_told status answer kind (inl told) = told_line status answer kind told
-  line_told status answer kind (inr told) = told_line Memory answer tt told
+  pub check_told : (command : Command) (status answer : Status) → FindsCheck status old.sources new.sources → (Told status answer old.out new.out ⊎ Told Memory answer old.out new.out) → Answers (Some command) answer old new
+  check_told (Check streets proof) status answer found (inl told) = answer_of_told status answer found told
+  check_told (Check streets proof) status answer found (inr told) = answer_of_told Memory answer (inl tt) told

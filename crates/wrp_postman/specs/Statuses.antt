@@ -1,13 +1,14 @@
 -- The exit status and the line of each status.
-use Rattle.std.specs.Prelude.{ℕ, codes, List, [], ◌++◌}
+use Rattle.std.specs.Prelude.{ℕ, codes, List, ◌++◌, Option, None, Some}
+use Rattle.std.specs.Option.{option_map}
 use Rattle.std.specs.Fmt.{decimal}
 use Rattle.wrp_street.specs.declared.table.TableFault.{TableFault}
 use Rattle.wrp_street.specs.declared.table.TableFault.TheVariants as faults
 use Rattle.wrp_rules.specs.declared.rule.Rule.{Rule}
 use Rattle.wrp_rules.specs.declared.rule.Rule.TheVariants as rules
 use Rattle.wrp_rules.specs.Lines.{end_text}
+use Rattle.wrp_rules.specs.Proofs.{ended}
 use Rattle.wrp_rules.specs.declared.record.End.{End}
-use Rattle.wrp_postman.specs.declared.text.TheConstants.{USAGE}
 use Rattle.wrp_postman.specs.declared.status.LogCause.{LogCause}
 use Rattle.wrp_postman.specs.declared.status.LogCause.TheVariants as causes
 use Rattle.wrp_postman.specs.declared.status.VisitFault.{VisitFault}
@@ -68,12 +69,16 @@ rule_name rules.End = codes "End"
 rule_name rules.Missing = codes "Missing"
 rule_name rules.After = codes "After"
 
+-- a text with a row and a field behind it
+abbrev pub at_field : List ℕ → ℕ → ℕ → List ℕ
+at_field text row field = text ++ (decimal row ++ (codes " field " ++ decimal field))
+
 -- a fault of a table, with its row and field
 abbrev pub fault_text : TableFault → List ℕ
 fault_text faults.Header = codes "table Header"
 fault_text (faults.Fields row) = codes "table Fields row " ++ decimal row
-fault_text (faults.Name row field) = codes "table Name row " ++ (decimal row ++ (codes " field " ++ decimal field))
-fault_text (faults.Cost row field) = codes "table Cost row " ++ (decimal row ++ (codes " field " ++ decimal field))
+fault_text (faults.Name row field) = at_field (codes "table Name row ") row field
+fault_text (faults.Cost row field) = at_field (codes "table Cost row ") row field
 fault_text (faults.Need row) = codes "table Need row " ++ decimal row
 fault_text (faults.Streets row) = codes "table Streets row " ++ decimal row
 fault_text (faults.Junctions row) = codes "table Junctions row " ++ decimal row
@@ -99,7 +104,8 @@ log_text causes.NoRecords = codes "log NoRecords"
 log_text (causes.NotALog length) = codes "log NotALog " ++ decimal length
 log_text (causes.Broken at) = codes "log Broken at " ++ decimal at
 log_text (causes.OtherTable at) = codes "log OtherTable at " ++ decimal at
-log_text (causes.BadRecord index rule) = codes "log BadRecord " ++ (decimal index ++ (codes " " ++ rule_name rule))
+log_text (causes.BadRecord index rule) =
+    codes "log BadRecord " ++ (decimal index ++ (codes " " ++ rule_name rule))
 
 -- why stops were refused
 abbrev pub visit_text : VisitFault → List ℕ
@@ -113,29 +119,39 @@ abbrev pub turn_text : TurnFault → List ℕ
 turn_text (turns.Form line) = codes "bans Form line " ++ decimal line
 turn_text (turns.Turn line) = codes "bans Turn line " ++ decimal line
 turn_text (turns.Either street) = codes "bans Either street " ++ decimal street
-turn_text (turns.Size junctions streets) = codes "bans Size " ++ (decimal junctions ++ (codes " " ++ decimal streets))
+turn_text (turns.Size junctions streets) =
+    codes "bans Size " ++ (decimal junctions ++ (codes " " ++ decimal streets))
 turn_text turns.Memory = codes "no memory"
 
 -- the commands and their words
 abbrev pub usage_text : List ℕ
-usage_text = USAGE.now
+usage_text =
+    codes "usage: solve STREETS PROOF LOG BUDGET" ++ codes " | resume STREETS PROOF LOG BUDGET"
+    ++ codes " | check STREETS PROOF" ++ codes " | info STREETS" ++ codes " | town SEED W H"
+    ++ codes " | demo SEED W H BUDGET" ++ codes " | expand STREETS STOPS"
+    ++ codes " | visit STREETS STOPS PROOF LOG BUDGET" ++ codes " | unfold STREETS BANS"
+    ++ codes " | turns STREETS BANS PROOF LOG BUDGET"
 
--- the line of a status that has one, without its line feed; else no text
-abbrev pub status_text : Status → List ℕ
-status_text (Optimal cost) = []
-status_text (Accepted end) = accepted_text end
-status_text Done = []
-status_text (Unfinished low high before after) = []
-status_text Infeasible = []
-status_text (ProofRefused line rule) = refused_text line rule
-status_text Usage = usage_text
-status_text (TableRefused fault) = fault_text fault
-status_text ReadFault = codes "read fault"
-status_text WriteFault = []
-status_text DiskFault = codes "disk fault"
-status_text (LogRefused cause) = log_text cause
-status_text (LogFull length limit) = full_text length limit
-status_text TooLong = codes "too long"
-status_text (StopsRefused fault) = visit_text fault
-status_text (BansRefused fault) = turn_text fault
-status_text Memory = codes "no memory"
+-- the line of a status, without its line feed; none where a report stands for it, and after a fault
+-- of a write
+abbrev pub status_text : Status → Option (List ℕ)
+status_text (Accepted end) = Some (accepted_text end)
+status_text (ProofRefused line rule) = Some (refused_text line rule)
+status_text Usage = Some usage_text
+status_text (TableRefused fault) = Some (fault_text fault)
+status_text ReadFault = Some (codes "read fault")
+status_text DiskFault = Some (codes "disk fault")
+status_text (LogRefused cause) = Some (log_text cause)
+status_text (LogFull length limit) = Some (full_text length limit)
+status_text TooLong = Some (codes "too long")
+status_text (StopsRefused fault) = Some (visit_text fault)
+status_text (BansRefused fault) = Some (turn_text fault)
+status_text Memory = Some (codes "no memory")
+status_text status = None
+
+-- the same with its line feed
+abbrev pub status_line : Status → Option (List ℕ)
+status_line status = option_map ended (status_text status)
+
+abbrev pub accepted_line : End → List ℕ
+accepted_line end = ended (accepted_text end)

@@ -10,7 +10,8 @@ pub data Command : Type 0 where
 
 -- `check STREETS PROOF`
 abbrev pub command_of : List (List ℕ) → Option Command
-command_of (command ∷ streets ∷ proof ∷ []) = if bytes_eq command (codes "check") then Some (Check streets proof) else None
+command_of (command ∷ streets ∷ proof ∷ []) =
+    if bytes_eq command (codes "check") then Some (Check streets proof) else None
 command_of words = None
 
 -- the command that the program has read

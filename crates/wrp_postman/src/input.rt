@@ -1,10 +1,8 @@
 //! Reads a whole source into memory, up to a limit.
-ghost use Rattle.std.specs.Prelude.{◌≡◌, ◌≢◌, ◌+◌, ◌<◌, ◌≤◌, ◌^◌, [], length, IfOk, IfSome, OnErr, IsErrOf};
-ghost use Rattle.wrp_out.specs.Counts.{NeverFalls, Rose};
-ghost use Rattle.wrp_out.specs.Told.{Took, Tells};
-ghost use Rattle.wrp_check.specs.Streams.{TookAtMost};
-ghost use Rattle.wrp_postman.specs.Inputs.{Adds};
-ghost use Rattle.wrp_postman.specs.declared.input.InputFault.TheVariants.{TooLong, Read, Memory};
+ghost use Rattle.std.specs.Prelude.{◌≡◌, ◌+◌, ◌<◌, ◌≤◌, ◌^◌, [], length, IfOk, IfErr};
+ghost use Rattle.wrp_out.specs.Outside.{Tells, TookAtMost};
+ghost use Rattle.wrp_postman.specs.Inputs.{Adds, Fails, IsWhole, Stops};
+ghost use Rattle.wrp_postman.specs.declared.input.InputFault.TheVariants.{Memory};
 
 use std::alloc::{AllocError, Global};
 use thiserror::Error;
@@ -42,20 +40,19 @@ fn zeros(alloc: Global, count: usize) -> Result<Vec<u8>, AllocError>
     vec![in alloc; 0u8; count]
 }
 
-/// One read into the chunk, whose bytes are added at the end. Answers how many came: none at the end of the source.
+/// One read into the chunk, whose bytes are added at the end. Answers how many: none at the end.
 fn read_piece<S: Source>(
     source: &mut S,
     chunk: &mut [u8],
     bytes: &mut Vec<u8>,
 ) -> Result<usize, InputFault>
     requires { 0 < length chunk.old }
-    ensures adds { IfOk result (Adds (S.left source.old) (S.left source.new) bytes.old.items bytes.new.items) }
+    ensures adds { IfOk result
+        (Adds (S.input source.old) (S.input source.new) bytes.old.items bytes.new.items) }
     ensures few { IfOk result (λ count. count ≤ length chunk.old) }
-    ensures end { IfOk result (λ count. count ≡ 0 → Tells (S.left source.new) []) }
-    ensures memory { result ≢ Err InputFault.TooLong }
-    ensures taken { TookAtMost (length chunk.old) (S.left source.old) (S.left source.new) }
-    ensures read { IsErrOf result InputFault.Read → Rose (S.faults source.old) (S.faults source.new) }
-    ensures faults { NeverFalls (S.faults source.old) (S.faults source.new) }
+    ensures end { IfOk result (λ count. count ≡ 0 → Tells (S.input source.new).left []) }
+    ensures fails { IfErr result (Fails (S.input source.old) (S.input source.new)) }
+    ensures taken { TookAtMost (length chunk.old) (S.input source.old) (S.input source.new) }
 {
     let Ok(count) = source.read(chunk) else {
         return Err(InputFault::Read);
@@ -71,13 +68,10 @@ pub(crate) fn read_all<S: Source>(
     limit: usize,
 ) -> Result<Vec<u8>, InputFault>
     requires { limit < 2 ^ 40 }
-    ensures bytes { IfOk result (λ bytes. Tells (S.left source.old) bytes.items) }
-    ensures end { IfOk result (λ bytes. Tells (S.left source.new) []) }
-    ensures short { IfOk result (λ bytes. length bytes.items ≤ limit) }
-    ensures too_long { IsErrOf result InputFault.TooLong → IfSome (S.left source.old) (λ bytes. limit < length bytes) }
-    ensures taken { TookAtMost (limit + 1) (S.left source.old) (S.left source.new) }
-    ensures read { IsErrOf result InputFault.Read → Rose (S.faults source.old) (S.faults source.new) }
-    ensures faults { NeverFalls (S.faults source.old) (S.faults source.new) }
+    ensures whole { IfOk result
+        (λ bytes. IsWhole limit (S.input source.old) (S.input source.new) bytes.items) }
+    ensures stops { IfErr result (Stops limit (S.input source.old) (S.input source.new)) }
+    ensures taken { TookAtMost (limit + 1) (S.input source.old) (S.input source.new) }
 {
     let mut chunk = zeros(alloc, CHUNK)?;
     let mut bytes = Vec::new(alloc);

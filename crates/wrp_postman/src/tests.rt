@@ -1,5 +1,6 @@
-// What no clause says: that whole runs over worked towns answer what their author means, wherever a read or a write ends.
-ghost use Rattle.std.specs.Prelude.{Some};
+// What no clause says: that whole runs over worked towns print what their author means, wherever a
+// read or a write ends.
+ghost use Rattle.wrp_out.specs.Faulty.{input_of};
 
 use crate::run::postman;
 use crate::status::Status;
@@ -7,40 +8,119 @@ use std::alloc::{AllocError, Global};
 use std::test::Fail;
 use wrp_out::{Failed, MemSink, MemSource, Source, SteadySink, SteadySource};
 use wrp_proof::{End, Rule};
-use wrp_street::TableFault;
 
 /// The bytes that the sink of a test has room for.
 const ROOM: usize = 512;
 
-/// A command of three words, and one word more.
+/// The bytes that a table may have, and a line of a proof of version 1.
+const TABLE_BYTES: usize = 1 << 22;
+
+const LINE_BYTES: usize = 1 << 24;
+
+/// The words of a check, and one word more.
 const WORDS: [&str; 4] = ["check", "streets.csv", "proof.txt", "more"];
 
-const USAGE: &[u8] =
-    b"usage: solve STREETS PROOF LOG BUDGET | resume STREETS PROOF LOG BUDGET | check STREETS PROOF | info STREETS | town SEED W H | demo SEED W H BUDGET | expand STREETS STOPS | visit STREETS STOPS PROOF LOG BUDGET | unfold STREETS BANS | turns STREETS BANS PROOF LOG BUDGET\n";
+const USAGE: &str = "usage: solve STREETS PROOF LOG BUDGET | resume STREETS PROOF LOG BUDGET \
+    | check STREETS PROOF | info STREETS | town SEED W H | demo SEED W H BUDGET \
+    | expand STREETS STOPS | visit STREETS STOPS PROOF LOG BUDGET | unfold STREETS BANS \
+    | turns STREETS BANS PROOF LOG BUDGET\n";
 
-const EMPTY: &[u8] = b"street,from,to,forward,backward,need\n";
+const HEADER: &str = "street,from,to,forward,backward,need\n";
 
-const TRIANGLE: &[u8] =
-    b"street,from,to,forward,backward,need\nab,A,B,3,3,yes\nbc,B,C,4,4,yes\nca,C,A,5,5,yes\n";
+const TRIANGLE: &str = "ab,A,B,3,3,yes\nbc,B,C,4,4,yes\nca,C,A,5,5,yes\n";
 
-const SLOPE: &[u8] = b"street,from,to,forward,backward,need\ne,A,B,2,3,yes\n";
+const SLOPE: &str = "e,A,B,2,3,yes\n";
 
-const SLOPE_BOTH: &[u8] = b"street,from,to,forward,backward,need\ne,A,B,2,3,both\n";
+const PROOF: &str = "postman-proof 2\nt 12 0+ 1+ 2+\nb 0 1 3:3 4:4 5:5\nend optimal 12\n";
 
-const SLOPE_FORWARD: &[u8] = b"street,from,to,forward,backward,need\ne,A,B,2,3,forward\n";
+/// The rows of a table, a proof from its version on, and what the check of both prints.
+type Case = (&'static str, &'static str, &'static str);
 
-const ONE_WAY: &[u8] =
-    b"street,from,to,forward,backward,need\na,A,B,1,-,no\nb,B,C,1,-,yes\nc,C,A,1,-,no\nd,B,A,5,-,yes\n";
-
-const LOOP: &[u8] = b"street,from,to,forward,backward,need\nl,A,A,7,-,yes\n";
-
-const STEEP: &[u8] =
-    b"street,from,to,forward,backward,need\nab,A,B,1,9,backward\nbc,B,C,1,1,no\nca,C,A,1,1,no\n";
-
-const DEAR: &[u8] = b"street,from,to,forward,backward,need\ne,A,B,1000001,3,yes\n";
-
-const TRIANGLE_PROOF: &[u8] =
-    b"postman-proof 2\nt 12 0+ 1+ 2+\nb 0 1 3:3 4:4 5:5\nend optimal 12\n";
+const CASES: [Case; 28] = [
+    // Proofs that are accepted.
+    (
+        TRIANGLE,
+        "2\nt 12 0+ 1+ 2+\nb 0 1 3:3 4:4 5:5\nend optimal 12\n",
+        "accepted optimal 12",
+    ),
+    ("", "1\nt 0\nend optimal 0\n", "accepted optimal 0"),
+    (
+        "a,A,B,1,-,no\nb,B,C,1,-,yes\nc,C,A,1,-,no\nd,B,A,5,-,yes\n",
+        "1\nt 9 0+ 1+ 2+ 0+ 3+\nb 0 1 0:1 2:2 3:3 4:6\nend optimal 9\n",
+        "accepted optimal 9",
+    ),
+    (
+        "l,A,A,7,-,yes\n",
+        "2\nt 7 0+\nb 0 1 1:7\nend optimal 7\n",
+        "accepted optimal 7",
+    ),
+    (
+        "e,A,B,2,3,both\n",
+        "2\nt 5 0+ 0-\nb 0 1 2:2 3:3\nend optimal 5\n",
+        "accepted optimal 5",
+    ),
+    (
+        "e,A,B,2,3,forward\n",
+        "2\nt 5 0+ 0-\nb 0 1 1:3 2:5\nend optimal 5\n",
+        "accepted optimal 5",
+    ),
+    (
+        "ab,A,B,1,9,backward\nbc,B,C,1,1,no\nca,C,A,1,1,no\n",
+        "2\nt 10 0- 0+\nb 0 1 0:1 3:10\nend optimal 10\n",
+        "accepted optimal 10",
+    ),
+    // One proof for each rule.
+    (
+        "e,A,B,1000001,3,yes\n",
+        "1\nt 1000004 0+ 0-\n",
+        "refused 1 Start",
+    ),
+    (SLOPE, "1\no 0\n", "refused 2 Later"),
+    (SLOPE, "1\nend infeasible\n", "refused 2 Later"),
+    (SLOPE, "1\nt 5 0+ 0-\nb 0 1 2:3\n", "refused 3 Later"),
+    (SLOPE, "1\nx\n", "refused 2 Form"),
+    (
+        TRIANGLE,
+        "2\nt 12 0+ 1+ 2+\nb 0 1 3:03 4:4 5:5\nend optimal 12\n",
+        "refused 3 Number",
+    ),
+    (SLOPE, "1\nt 5 1+\n", "refused 2 Range"),
+    (SLOPE, "1\nb 9 1 0:1\n", "refused 2 Range"),
+    (SLOPE, "1\nt 5 0+\n", "refused 2 Walk"),
+    (SLOPE, "1\nt 0\n", "refused 2 Serve"),
+    (SLOPE, "1\nt 6 0+ 0-\n", "refused 2 Cost"),
+    (SLOPE, "1\nt 5 0+ 0-\nt 5 0- 0+\n", "refused 3 Dear"),
+    (
+        TRIANGLE,
+        "2\nt 12 0+ 1+ 2+\nb 0 1 3:3 4:4 5:5\nb 0 1 3:3\n",
+        "refused 4 Closed",
+    ),
+    (
+        SLOPE,
+        "1\nt 5 0+ 0-\nb 0 1 2:2\nb 0 2 2:3\n",
+        "refused 4 Low",
+    ),
+    (SLOPE, "1\nend optimal 5\n", "refused 2 End"),
+    (
+        SLOPE,
+        "1\nt 5 0+ 0-\nb 0 1 2:2\nend optimal 5\n",
+        "refused 4 End",
+    ),
+    (
+        TRIANGLE,
+        "2\nt 12 0+ 1+ 2+\nb 0 1 3:3 4:4 5:5\nend optimal 12\nx",
+        "refused 5 After",
+    ),
+    // Tables with a fault.
+    ("a,A,B,1,1\n", "2\n", "table Fields row 1"),
+    (
+        "a,A,B,1,1,no\na,,B,1,1,no\n",
+        "2\n",
+        "table Name row 2 field 2",
+    ),
+    ("a,A,B,1000000001,1,no\n", "2\n", "table Cost row 1 field 4"),
+    ("a,A,B,1000000000,1,maybe\n", "2\n", "table Need row 1"),
+];
 
 /// Gives few bytes at each read: so many at the first, and so many more each time.
 #[derive(Debug, Drop)]
@@ -51,9 +131,7 @@ struct Pieces {
 }
 
 impl Source for Pieces {
-    ghost left = { λ s. Some s.whole.left };
-
-    ghost faults = { λ s. s.whole.faults };
+    ghost input = { λ s. input_of s.whole };
 
     fn read(&mut self, into: &mut [u8]) -> Result<usize, Failed> {
         let room = into.len().min(self.size.max(1));
@@ -62,21 +140,12 @@ impl Source for Pieces {
     }
 }
 
-/// A source of these bytes one at a time, of which the read with this number fails.
-fn one_by_one(alloc: Global, bytes: &[u8], fail: u64) -> Result<Pieces, AllocError> {
+/// A source of these bytes: one at first, and so many more each time. This read of it fails.
+fn in_pieces(alloc: Global, bytes: &[u8], more: usize, fail: u64) -> Result<Pieces, AllocError> {
     Ok(Pieces {
         whole: MemSource::new(alloc, bytes, &[fail])?,
         size: 1,
-        more: 0,
-    })
-}
-
-/// A source of one of these bytes, then of two, and so on.
-fn more_and_more(alloc: Global, bytes: &[u8]) -> Result<Pieces, AllocError> {
-    Ok(Pieces {
-        whole: MemSource::new(alloc, bytes, &[])?,
-        size: 1,
-        more: 1,
+        more,
     })
 }
 
@@ -87,23 +156,19 @@ struct Answer {
     line: Vec<u8>,
 }
 
-/// These words, each as the command line gives it.
-fn words_of(alloc: Global, texts: &[&str]) -> Result<Vec<String>, AllocError> {
+/// The answer to these words over two sources, with so much room for its line.
+fn answer_to<S: Source, P: Source>(
+    alloc: Global,
+    texts: &[&str],
+    streets: &mut S,
+    proof: &mut P,
+    room: usize,
+) -> Result<Answer, AllocError> {
     let mut words = Vec::new(alloc);
     for text in texts {
         words.push(String::from_str(alloc, text)?)?;
     }
-    Ok(words)
-}
-
-/// The answer of a check of two sources.
-fn answer_over<S: Source, P: Source>(
-    alloc: Global,
-    streets: &mut S,
-    proof: &mut P,
-) -> Result<Answer, AllocError> {
-    let words = words_of(alloc, &WORDS[..3])?;
-    let mut out = SteadySink::new(alloc, ROOM)?;
+    let mut out = SteadySink::new(alloc, room)?;
     let status = postman(alloc, &words, streets, proof, &mut out);
     Ok(Answer {
         status,
@@ -111,189 +176,45 @@ fn answer_over<S: Source, P: Source>(
     })
 }
 
-/// The answer of a check of these bytes.
-fn answer_of(alloc: Global, table: &[u8], proof: &[u8]) -> Result<Answer, AllocError> {
+/// The answer of a check of these bytes, with so much room for its line.
+fn answer_of(alloc: Global, table: &[u8], proof: &[u8], room: usize) -> Result<Answer, AllocError> {
     let mut streets = SteadySource::new(alloc, table)?;
     let mut proof = SteadySource::new(alloc, proof)?;
-    answer_over(alloc, &mut streets, &mut proof)
+    answer_to(alloc, &WORDS[..3], &mut streets, &mut proof, room)
 }
 
-/// The status of a proof that is accepted with this least cost.
-fn optimal(cost: u64) -> Status {
-    Status::Accepted {
-        end: End::Optimal { cost },
-    }
+/// The answer of a check of these bytes, of which one comes at first, and so many more each time.
+fn slow_answer(
+    alloc: Global,
+    table: &[u8],
+    proof: &[u8],
+    more: usize,
+) -> Result<Answer, AllocError> {
+    let mut streets = in_pieces(alloc, table, more, 0)?;
+    let mut proof = in_pieces(alloc, proof, more, 0)?;
+    answer_to(alloc, &WORDS[..3], &mut streets, &mut proof, ROOM)
 }
 
-/// The status of a proof of which this line breaks this rule.
-fn refused(line: u64, rule: Rule) -> Status {
-    Status::ProofRefused { line, rule }
-}
-
-#[test]
-fn accepts_worked_proofs(rt: HostRuntime) -> Result<(), Fail> {
-    for (table, proof, cost, line) in [
-        (
-            TRIANGLE,
-            TRIANGLE_PROOF,
-            12,
-            b"accepted optimal 12\n".as_slice(),
-        ),
-        (
-            EMPTY,
-            b"postman-proof 1\nt 0\nend optimal 0\n",
-            0,
-            b"accepted optimal 0\n",
-        ),
-        (
-            ONE_WAY,
-            b"postman-proof 1\nt 9 0+ 1+ 2+ 0+ 3+\nb 0 1 0:1 2:2 3:3 4:6\nend optimal 9\n",
-            9,
-            b"accepted optimal 9\n",
-        ),
-        (
-            LOOP,
-            b"postman-proof 2\nt 7 0+\nb 0 1 1:7\nend optimal 7\n",
-            7,
-            b"accepted optimal 7\n",
-        ),
-        (
-            SLOPE_BOTH,
-            b"postman-proof 2\nt 5 0+ 0-\nb 0 1 2:2 3:3\nend optimal 5\n",
-            5,
-            b"accepted optimal 5\n",
-        ),
-        (
-            SLOPE_FORWARD,
-            b"postman-proof 2\nt 5 0+ 0-\nb 0 1 1:3 2:5\nend optimal 5\n",
-            5,
-            b"accepted optimal 5\n",
-        ),
-        (
-            STEEP,
-            b"postman-proof 2\nt 10 0- 0+\nb 0 1 0:1 3:10\nend optimal 10\n",
-            10,
-            b"accepted optimal 10\n",
-        ),
-    ] {
-        let answer = answer_of(rt.alloc(), table, proof)?;
-        assert_eq!(rt; answer.status, optimal(cost), "cost {cost}");
-        assert_eq!(rt; answer.line.as_slice(), line, "cost {cost}");
-    }
-    Ok(())
+/// The table of the triangle.
+fn triangle(alloc: Global) -> Result<String, AllocError> {
+    format!(in alloc; "{HEADER}{TRIANGLE}")
 }
 
 #[test]
-fn refuses_tours_and_bounds(rt: HostRuntime) -> Result<(), Fail> {
-    for (proof, rule, line) in [
-        (
-            b"postman-proof 1\nx\n".as_slice(),
-            Rule::Form,
-            b"refused 2 Form\n".as_slice(),
-        ),
-        (
-            b"postman-proof 1\nt 5 1+\n",
-            Rule::Range,
-            b"refused 2 Range\n",
-        ),
-        (
-            b"postman-proof 1\nt 5 0+\n",
-            Rule::Walk,
-            b"refused 2 Walk\n",
-        ),
-        (b"postman-proof 1\nt 0\n", Rule::Serve, b"refused 2 Serve\n"),
-        (
-            b"postman-proof 1\nt 6 0+ 0-\n",
-            Rule::Cost,
-            b"refused 2 Cost\n",
-        ),
-        (
-            b"postman-proof 1\nb 9 1 0:1\n",
-            Rule::Range,
-            b"refused 2 Range\n",
-        ),
-        (b"postman-proof 1\no 0\n", Rule::Later, b"refused 2 Later\n"),
-        (
-            b"postman-proof 1\nend optimal 5\n",
-            Rule::End,
-            b"refused 2 End\n",
-        ),
-        (
-            b"postman-proof 1\nend infeasible\n",
-            Rule::Later,
-            b"refused 2 Later\n",
-        ),
-    ] {
-        let answer = answer_of(rt.alloc(), SLOPE, proof)?;
-        assert_eq!(rt; answer.status, refused(2, rule), "{rule:?}");
-        assert_eq!(rt; answer.line.as_slice(), line, "{rule:?}");
-    }
-    Ok(())
-}
-
-#[test]
-fn refuses_what_is_out_of_order(rt: HostRuntime) -> Result<(), Fail> {
-    for (table, proof, number, rule, line) in [
-        (
-            DEAR,
-            b"postman-proof 1\nt 1000004 0+ 0-\n".as_slice(),
-            1,
-            Rule::Start,
-            b"refused 1 Start\n".as_slice(),
-        ),
-        (
-            SLOPE,
-            b"postman-proof 1\nt 5 0+ 0-\nt 5 0- 0+\n",
-            3,
-            Rule::Dear,
-            b"refused 3 Dear\n",
-        ),
-        (
-            SLOPE,
-            b"postman-proof 1\nt 5 0+ 0-\nb 0 1 2:3\n",
-            3,
-            Rule::Later,
-            b"refused 3 Later\n",
-        ),
-        (
-            TRIANGLE,
-            b"postman-proof 2\nt 12 0+ 1+ 2+\nb 0 1 3:03 4:4 5:5\nend optimal 12\n",
-            3,
-            Rule::Number,
-            b"refused 3 Number\n",
-        ),
-        (
-            SLOPE,
-            b"postman-proof 1\nt 5 0+ 0-\nb 0 1 2:2\nb 0 2 2:3\n",
-            4,
-            Rule::Low,
-            b"refused 4 Low\n",
-        ),
-        (
-            SLOPE,
-            b"postman-proof 1\nt 5 0+ 0-\nb 0 1 2:2\nend optimal 5\n",
-            4,
-            Rule::End,
-            b"refused 4 End\n",
-        ),
-        (
-            TRIANGLE,
-            b"postman-proof 2\nt 12 0+ 1+ 2+\nb 0 1 3:3 4:4 5:5\nb 0 1 3:3\n",
-            4,
-            Rule::Closed,
-            b"refused 4 Closed\n",
-        ),
-        (
-            TRIANGLE,
-            b"postman-proof 2\nt 12 0+ 1+ 2+\nb 0 1 3:3 4:4 5:5\nend optimal 12\nx",
-            5,
-            Rule::After,
-            b"refused 5 After\n",
-        ),
-    ] {
-        let answer = answer_of(rt.alloc(), table, proof)?;
-        assert_eq!(rt; answer.status, refused(number, rule), "{rule:?}");
-        assert_eq!(rt; answer.line.as_slice(), line, "{rule:?}");
+fn prints_as_worked_however_reads_end(rt: HostRuntime) -> Result<(), Fail> {
+    let alloc = rt.alloc();
+    for (rows, proof, text) in &CASES {
+        let table = format!(in alloc; "{HEADER}{rows}")?;
+        let proof = format!(in alloc; "postman-proof {proof}")?;
+        let line = format!(in alloc; "{text}\n")?;
+        let (table, proof) = (table.as_bytes(), proof.as_bytes());
+        let answer = answer_of(alloc, table, proof, ROOM)?;
+        assert_eq!(rt; answer.line.as_slice(), line.as_bytes(), "{text}");
+        for more in 0..2 {
+            let slow = slow_answer(alloc, table, proof, more)?;
+            assert_eq!(rt; slow.status, answer.status, "{text}");
+            assert_eq!(rt; slow.line, answer.line, "{text}");
+        }
     }
     Ok(())
 }
@@ -301,15 +222,11 @@ fn refuses_what_is_out_of_order(rt: HostRuntime) -> Result<(), Fail> {
 #[test]
 fn misses_the_rest_of_a_proof(rt: HostRuntime) -> Result<(), Fail> {
     let alloc = rt.alloc();
+    let table = triangle(alloc)?;
     let mut number = 1u64;
-    for (size, byte) in TRIANGLE_PROOF.iter().enumerate() {
-        let answer = answer_of(alloc, TRIANGLE, &TRIANGLE_PROOF[..size])?;
+    for (size, byte) in PROOF.as_bytes().iter().enumerate() {
+        let answer = answer_of(alloc, table.as_bytes(), &PROOF.as_bytes()[..size], ROOM)?;
         let line = format!(in alloc; "refused {number} Missing\n")?;
-        assert_eq!(rt;
-            answer.status,
-            refused(number, Rule::Missing),
-            "{size} bytes"
-        );
         assert_eq!(rt; answer.line.as_slice(), line.as_bytes(), "{size} bytes");
         if *byte == b'\n' {
             number = number.saturating_add(1);
@@ -320,203 +237,104 @@ fn misses_the_rest_of_a_proof(rt: HostRuntime) -> Result<(), Fail> {
 }
 
 #[test]
-fn refuses_tables(rt: HostRuntime) -> Result<(), Fail> {
-    for (table, fault, line) in [
-        (
-            b"".as_slice(),
-            TableFault::Header,
-            b"table Header\n".as_slice(),
-        ),
-        (
-            b"street,from,to,forward,backward,need\na,A,B,1,1\n",
-            TableFault::Fields { row: 1 },
-            b"table Fields row 1\n",
-        ),
-        (
-            b"street,from,to,forward,backward,need\na,A,B,1,1,no\na,,B,1,1,no\n",
-            TableFault::Name { row: 2, field: 2 },
-            b"table Name row 2 field 2\n",
-        ),
-        (
-            b"street,from,to,forward,backward,need\na,A,B,1000000001,1,no\n",
-            TableFault::Cost { row: 1, field: 4 },
-            b"table Cost row 1 field 4\n",
-        ),
-        (
-            b"street,from,to,forward,backward,need\na,A,B,1000000000,1,maybe\n",
-            TableFault::Need { row: 1 },
-            b"table Need row 1\n",
-        ),
-    ] {
-        let answer = answer_of(rt.alloc(), table, TRIANGLE_PROOF)?;
-        assert_eq!(rt; answer.status, Status::TableRefused { fault }, "{fault:?}");
-        assert_eq!(rt; answer.line.as_slice(), line, "{fault:?}");
-    }
-    Ok(())
-}
-
-#[test]
-fn takes_a_table_as_spreadsheets_write_it(rt: HostRuntime) -> Result<(), Fail> {
-    let table =
-        b"\xEF\xBB\xBF street ,from,to,forward,backward,need\r\n\"Main St, north\", A ,B\t,3,3,yes\r\nbc,B,C, 4 ,4,yes\r\nca,C,A,5,5, yes\r\n";
-    let answer = answer_of(rt.alloc(), table, TRIANGLE_PROOF)?;
-    assert_eq!(rt; answer.status, optimal(12));
+fn reads_tables_as_spreadsheets_write_them(rt: HostRuntime) -> Result<(), Fail> {
+    let table = b"\xEF\xBB\xBF street ,from,to,forward,backward,need\r\n\
+        \"Main St, north\", A ,B\t,3,3,yes\r\nbc,B,C, 4 ,4,yes\r\nca,C,A,5,5, yes\r\n";
+    let answer = answer_of(rt.alloc(), table, PROOF.as_bytes(), ROOM)?;
     assert_eq!(rt; answer.line.as_slice(), b"accepted optimal 12\n".as_slice());
+    let answer = answer_of(rt.alloc(), b"", PROOF.as_bytes(), ROOM)?;
+    assert_eq!(rt; answer.line.as_slice(), b"table Header\n".as_slice());
     Ok(())
 }
 
 #[test]
-fn takes_a_table_of_four_mebibytes_at_most(rt: HostRuntime) -> Result<(), Fail> {
+fn takes_tables_and_lines_of_their_limits(rt: HostRuntime) -> Result<(), Fail> {
     let alloc = rt.alloc();
-    let mut table = vec![in alloc; b'a'; 4_194_304]?;
-    let answer = answer_of(alloc, &table, TRIANGLE_PROOF)?;
-    assert_eq!(rt;
-        answer.line.as_slice(),
-        b"table Header\n".as_slice(),
-        "at the limit"
-    );
-    table.push(b'a')?;
-    let answer = answer_of(alloc, &table, TRIANGLE_PROOF)?;
-    assert_eq!(rt; answer.status, Status::TooLong, "one byte more");
-    assert_eq!(rt;
-        answer.line.as_slice(),
-        b"too long\n".as_slice(),
-        "one byte more"
-    );
-    Ok(())
-}
-
-/// The answer to a proof of version 1 whose second line has so many bytes.
-fn answer_to_line(alloc: Global, size: usize) -> Result<Answer, AllocError> {
-    let mut proof = Vec::from_slice(alloc, b"postman-proof 1\n")?;
-    proof.extend_from_slice(&vec![in alloc; b'x'; size]?)?;
-    proof.push(b'\n')?;
-    answer_of(alloc, TRIANGLE, &proof)
-}
-
-#[test]
-fn takes_a_line_of_its_version_at_most(rt: HostRuntime) -> Result<(), Fail> {
-    let answer = answer_to_line(rt.alloc(), 16_777_216)?;
-    assert_eq!(rt; answer.status, refused(2, Rule::Form), "at the limit");
-    let answer = answer_to_line(rt.alloc(), 16_777_217)?;
-    assert_eq!(rt; answer.status, Status::TooLong, "one byte more");
-    assert_eq!(rt;
-        answer.line.as_slice(),
-        b"too long\n".as_slice(),
-        "one byte more"
-    );
-    Ok(())
-}
-
-#[test]
-fn answers_alike_however_reads_end(rt: HostRuntime) -> Result<(), Fail> {
-    let alloc = rt.alloc();
-    for (table, proof) in [
-        (TRIANGLE, TRIANGLE_PROOF),
-        (EMPTY, b"postman-proof 1\nt 0\nend optimal 0\n"),
-        (SLOPE, b"postman-proof 1\nt 5 0+ 0-\nt 5 0- 0+\n"),
-        (SLOPE, b"postman-proof 2\nt 5 0+ 0-\nend optimal 5\nx"),
-        (LOOP, b"postman-proof 2\nt 7 0+\nb 0 1 1:7"),
-        (b"street,from,to\r\n", b""),
-        (
-            ONE_WAY,
-            b"postman-proof 1\nt 9 0+ 1+ 2+ 0+ 3+\nb 0 1 0:1 2:2 3:3 4:6\nend optimal 9\n",
-        ),
-        (
-            STEEP,
-            b"postman-proof 2\nt 10 0- 0+\nb 0 1 0:1 3:10\nend optimal 9\n",
-        ),
-        (DEAR, b"postman-proof 1\nt 1000004 0+ 0-\n"),
-        (
-            SLOPE_BOTH,
-            b"postman-proof 2\nt 5 0+ 0-\nb 0 1 2:2 3:3\nend optimal 5\n\n",
-        ),
+    let table = triangle(alloc)?;
+    for (size, text) in [
+        (TABLE_BYTES, "table Header\n"),
+        (TABLE_BYTES + 1, "too long\n"),
     ] {
-        let at_once = answer_of(alloc, table, proof)?;
-        let slow = answer_over(
-            alloc,
-            &mut one_by_one(alloc, table, 0)?,
-            &mut one_by_one(alloc, proof, 0)?,
-        )?;
-        let faster = answer_over(
-            alloc,
-            &mut more_and_more(alloc, table)?,
-            &mut more_and_more(alloc, proof)?,
-        )?;
-        assert_eq!(rt; slow.status, at_once.status);
-        assert_eq!(rt; slow.line, at_once.line);
-        assert_eq!(rt; faster.status, at_once.status);
-        assert_eq!(rt; faster.line, at_once.line);
+        let answer = answer_of(alloc, &vec![in alloc; b'a'; size]?, b"", ROOM)?;
+        assert_eq!(rt; answer.line.as_slice(), text.as_bytes(), "{size} bytes");
+    }
+    for (size, text) in [
+        (LINE_BYTES, "refused 2 Form\n"),
+        (LINE_BYTES + 1, "too long\n"),
+    ] {
+        let mut proof = Vec::from_slice(alloc, b"postman-proof 1\n")?;
+        proof.extend_from_slice(&vec![in alloc; b'x'; size]?)?;
+        proof.push(b'\n')?;
+        let answer = answer_of(alloc, table.as_bytes(), &proof, ROOM)?;
+        assert_eq!(rt; answer.line.as_slice(), text.as_bytes(), "{size} bytes");
     }
     Ok(())
 }
 
+/// The line of a check of which one read of the table or of the proof fails.
+fn line_after(alloc: Global, of_table: u64, of_proof: u64) -> Result<Vec<u8>, AllocError> {
+    let table = triangle(alloc)?;
+    let mut streets = in_pieces(alloc, table.as_bytes(), 0, of_table)?;
+    let mut proof = in_pieces(alloc, PROOF.as_bytes(), 0, of_proof)?;
+    Ok(answer_to(alloc, &WORDS[..3], &mut streets, &mut proof, ROOM)?.line)
+}
+
 #[test]
-fn tells_each_read_of_the_table_that_fails(rt: HostRuntime) -> Result<(), Fail> {
+fn tells_each_read_that_fails(rt: HostRuntime) -> Result<(), Fail> {
     let alloc = rt.alloc();
-    for number in 0..TRIANGLE.len() as u64 + 1 {
-        let mut streets = one_by_one(alloc, TRIANGLE, number + 1)?;
-        let mut proof = SteadySource::new(alloc, TRIANGLE_PROOF)?;
-        let answer = answer_over(alloc, &mut streets, &mut proof)?;
-        assert_eq!(rt; answer.status, Status::ReadFault, "read {number}");
+    for number in 1..(triangle(alloc)?.len() as u64).saturating_add(2) {
+        let line = line_after(alloc, number, 0)?;
         assert_eq!(rt;
-            answer.line.as_slice(),
+            line.as_slice(),
+            b"read fault\n".as_slice(),
+            "read {number}"
+        );
+    }
+    for number in 1..(PROOF.len() as u64).saturating_add(2) {
+        let line = line_after(alloc, 0, number)?;
+        assert_eq!(rt;
+            line.as_slice(),
             b"read fault\n".as_slice(),
             "read {number}"
         );
     }
     Ok(())
-}
-
-#[test]
-fn tells_each_read_of_the_proof_that_fails(rt: HostRuntime) -> Result<(), Fail> {
-    let alloc = rt.alloc();
-    for number in 0..TRIANGLE_PROOF.len() as u64 + 1 {
-        let mut streets = SteadySource::new(alloc, TRIANGLE)?;
-        let mut proof = one_by_one(alloc, TRIANGLE_PROOF, number + 1)?;
-        let answer = answer_over(alloc, &mut streets, &mut proof)?;
-        assert_eq!(rt; answer.status, Status::ReadFault, "read {number}");
-        assert_eq!(rt;
-            answer.line.as_slice(),
-            b"read fault\n".as_slice(),
-            "read {number}"
-        );
-    }
-    Ok(())
-}
-
-/// The status of a check that writes to a sink of this capacity.
-fn status_within(alloc: Global, capacity: usize, proof: &[u8]) -> Result<Status, AllocError> {
-    let words = words_of(alloc, &WORDS[..3])?;
-    let mut streets = SteadySource::new(alloc, TRIANGLE)?;
-    let mut proof = SteadySource::new(alloc, proof)?;
-    let mut out = SteadySink::new(alloc, capacity)?;
-    Ok(postman(alloc, &words, &mut streets, &mut proof, &mut out))
 }
 
 #[test]
 fn keeps_a_refusal_that_cannot_be_written(rt: HostRuntime) -> Result<(), Fail> {
     let alloc = rt.alloc();
-    for capacity in 0..20 {
-        assert_eq!(rt;
-            status_within(alloc, capacity, TRIANGLE_PROOF)?,
+    let table = triangle(alloc)?;
+    let refused = Status::ProofRefused {
+        line: 1,
+        rule: Rule::Missing,
+    };
+    let accepted = Status::Accepted {
+        end: End::Optimal { cost: 12 },
+    };
+    for room in 0..21 {
+        let wanted = if room < 20 {
             Status::WriteFault
-        );
-        assert_eq!(rt;
-            status_within(alloc, capacity, b"")?,
-            refused(1, Rule::Missing)
-        );
+        } else {
+            accepted
+        };
+        let answer = answer_of(alloc, table.as_bytes(), PROOF.as_bytes(), room)?;
+        assert_eq!(rt; answer.status, wanted, "room {room}");
+        let answer = answer_of(alloc, table.as_bytes(), b"", room)?;
+        assert_eq!(rt; answer.status, refused, "room {room}");
     }
-    assert_eq!(rt; status_within(alloc, 20, TRIANGLE_PROOF)?, optimal(12));
     Ok(())
 }
 
 #[test]
 fn ends_in_a_fault_where_the_write_fails(rt: HostRuntime) -> Result<(), Fail> {
     let alloc = rt.alloc();
-    let words = words_of(alloc, &WORDS[..3])?;
-    let mut streets = SteadySource::new(alloc, TRIANGLE)?;
-    let mut proof = SteadySource::new(alloc, TRIANGLE_PROOF)?;
+    let mut words = Vec::new(alloc);
+    for text in &WORDS[..3] {
+        words.push(String::from_str(alloc, text)?)?;
+    }
+    let mut streets = SteadySource::new(alloc, triangle(alloc)?.as_bytes())?;
+    let mut proof = SteadySource::new(alloc, PROOF.as_bytes())?;
     let mut out = MemSink::new(alloc, &[1])?;
     let status = postman(alloc, &words, &mut streets, &mut proof, &mut out);
     assert_eq!(rt; status, Status::WriteFault);
@@ -524,36 +342,26 @@ fn ends_in_a_fault_where_the_write_fails(rt: HostRuntime) -> Result<(), Fail> {
     Ok(())
 }
 
-/// The answer to these words, over sources of which no read succeeds.
-fn answer_to(alloc: Global, texts: &[&str], capacity: usize) -> Result<Answer, AllocError> {
-    let words = words_of(alloc, texts)?;
-    let mut streets = MemSource::new(alloc, TRIANGLE, &[1])?;
-    let mut proof = MemSource::new(alloc, TRIANGLE_PROOF, &[1])?;
-    let mut out = SteadySink::new(alloc, capacity)?;
-    let status = postman(alloc, &words, &mut streets, &mut proof, &mut out);
-    Ok(Answer {
-        status,
-        line: Vec::from_slice(alloc, out.bytes())?,
-    })
-}
-
 #[test]
 fn tells_the_usage(rt: HostRuntime) -> Result<(), Fail> {
     let alloc = rt.alloc();
-    for count in [0, 1, 2, 4] {
-        let answer = answer_to(alloc, &WORDS[..count], ROOM)?;
-        assert_eq!(rt; answer.status, Status::Usage, "{count} words");
-        assert_eq!(rt; answer.line.as_slice(), USAGE, "{count} words");
+    let other = ["Check", "streets.csv", "proof.txt"];
+    for (texts, room) in [
+        (&WORDS[..0], ROOM),
+        (&WORDS[..1], ROOM),
+        (&WORDS[..2], ROOM),
+        (&WORDS[..4], ROOM),
+        (&other[..], ROOM),
+        (&other[..], 0),
+    ] {
+        let mut streets = in_pieces(alloc, b"", 0, 1)?;
+        let mut proof = in_pieces(alloc, b"", 0, 1)?;
+        let answer = answer_to(alloc, texts, &mut streets, &mut proof, room)?;
+        assert_eq!(rt; answer.status, Status::Usage);
+        assert_eq!(rt;
+            answer.line.as_slice(),
+            &USAGE.as_bytes()[..room.min(USAGE.len())]
+        );
     }
-    let answer = answer_to(alloc, &["Check", "streets.csv", "proof.txt"], ROOM)?;
-    assert_eq!(rt; answer.status, Status::Usage, "another word");
-    Ok(())
-}
-
-#[test]
-fn keeps_the_usage_that_cannot_be_written(rt: HostRuntime) -> Result<(), Fail> {
-    let answer = answer_to(rt.alloc(), &WORDS[..0], 0)?;
-    assert_eq!(rt; answer.status, Status::Usage);
-    assert_eq!(rt; answer.line.as_slice(), b"".as_slice());
     Ok(())
 }

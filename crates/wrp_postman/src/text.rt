@@ -1,8 +1,9 @@
 //! The lines that the program prints.
 ghost use Rattle.std.specs.Prelude.{◌≡◌, ◌++◌, codes, IfOk};
 ghost use Rattle.std.specs.Fmt.{decimal};
+ghost use Rattle.std.specs.Option.{option_map};
 ghost use Rattle.std.specs.String.{string_bytes};
-ghost use Rattle.wrp_postman.specs.Statuses.{rule_name as name_of_rule, fault_text as text_of_fault, accepted_text as text_of_end, refused_text as text_of_refusal, full_text as text_of_full, status_text as text_of_status, log_text as text_of_log, visit_text as text_of_visit, turn_text as text_of_turn};
+ghost use Rattle.wrp_postman.specs.Statuses.{rule_name as name_of_rule, fault_text as text_of_fault, accepted_text as text_of_end, refused_text as text_of_refusal, full_text as text_of_full, usage_text as text_of_usage, status_text as text_of_status, log_text as text_of_log, visit_text as text_of_visit, turn_text as text_of_turn};
 
 use crate::status::{LogCause, Status, TurnFault, VisitFault};
 use std::alloc::{AllocError, Global};
@@ -10,8 +11,10 @@ use wrp_proof::{End, Rule};
 use wrp_street::TableFault;
 
 /// The commands and their words.
-const USAGE: &str =
-    "usage: solve STREETS PROOF LOG BUDGET | resume STREETS PROOF LOG BUDGET | check STREETS PROOF | info STREETS | town SEED W H | demo SEED W H BUDGET | expand STREETS STOPS | visit STREETS STOPS PROOF LOG BUDGET | unfold STREETS BANS | turns STREETS BANS PROOF LOG BUDGET";
+const USAGE: &str = "usage: solve STREETS PROOF LOG BUDGET | resume STREETS PROOF LOG BUDGET \
+    | check STREETS PROOF | info STREETS | town SEED W H | demo SEED W H BUDGET \
+    | expand STREETS STOPS | visit STREETS STOPS PROOF LOG BUDGET | unfold STREETS BANS \
+    | turns STREETS BANS PROOF LOG BUDGET";
 
 /// A rule's name.
 fn rule_name(rule: Rule) -> &'static str
@@ -110,7 +113,7 @@ fn full_text(alloc: Global, length: u64, limit: u64) -> Result<String, AllocErro
 
 /// The commands and their words.
 fn usage_text(alloc: Global) -> Result<String, AllocError>
-    ensures { IfOk result (λ text. string_bytes text ≡ USAGE.now) }
+    ensures { IfOk result (λ text. string_bytes text ≡ text_of_usage) }
 {
     String::from_str(alloc, USAGE)
 }
@@ -159,27 +162,28 @@ fn turn_text(alloc: Global, fault: TurnFault) -> Result<String, AllocError>
     }
 }
 
-/// The line of a status that has one, without its line feed; else no text.
-pub(crate) fn status_text(alloc: Global, status: Status) -> Result<String, AllocError>
-    ensures { IfOk result (λ text. string_bytes text ≡ text_of_status status) }
+/// The line of a status, without its line feed. `None` where a report stands for it, and after a
+/// fault of a write.
+pub(crate) fn status_text(alloc: Global, status: Status) -> Result<Option<String>, AllocError>
+    ensures { IfOk result (λ text. option_map string_bytes text ≡ text_of_status status) }
 {
     match status {
-        Status::Accepted { end } => accepted_text(alloc, end),
-        Status::ProofRefused { line, rule } => refused_text(alloc, line, rule),
-        Status::Usage => usage_text(alloc),
-        Status::TableRefused { fault } => fault_text(alloc, fault),
-        Status::ReadFault => String::from_str(alloc, "read fault"),
-        Status::DiskFault => String::from_str(alloc, "disk fault"),
-        Status::LogRefused { cause } => log_text(alloc, cause),
-        Status::LogFull { length, limit } => full_text(alloc, length, limit),
-        Status::TooLong => String::from_str(alloc, "too long"),
-        Status::StopsRefused { fault } => visit_text(alloc, fault),
-        Status::BansRefused { fault } => turn_text(alloc, fault),
-        Status::Memory => String::from_str(alloc, "no memory"),
+        Status::Accepted { end } => accepted_text(alloc, end).map(Some),
+        Status::ProofRefused { line, rule } => refused_text(alloc, line, rule).map(Some),
+        Status::Usage => usage_text(alloc).map(Some),
+        Status::TableRefused { fault } => fault_text(alloc, fault).map(Some),
+        Status::ReadFault => String::from_str(alloc, "read fault").map(Some),
+        Status::DiskFault => String::from_str(alloc, "disk fault").map(Some),
+        Status::LogRefused { cause } => log_text(alloc, cause).map(Some),
+        Status::LogFull { length, limit } => full_text(alloc, length, limit).map(Some),
+        Status::TooLong => String::from_str(alloc, "too long").map(Some),
+        Status::StopsRefused { fault } => visit_text(alloc, fault).map(Some),
+        Status::BansRefused { fault } => turn_text(alloc, fault).map(Some),
+        Status::Memory => String::from_str(alloc, "no memory").map(Some),
         Status::Optimal { .. }
         | Status::Done
         | Status::Unfinished { .. }
         | Status::Infeasible
-        | Status::WriteFault => Ok(String::new(alloc)),
+        | Status::WriteFault => Ok(None),
     }
 }

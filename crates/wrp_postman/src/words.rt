@@ -6,7 +6,8 @@ ghost use Rattle.wrp_postman.specs.Words.{command_of, command_in};
 
 use crate::command::Names;
 
-/// The command that the words are, without the program's name. `None` where they are no command. It takes no memory.
+/// The command that the words are, without the program's name. `None` where they are no command. It
+/// takes no memory.
 pub fn names(words: &[String]) -> Option<Names<'_>>
     ensures { option_map command_in result ≡ command_of (map string_bytes words.now) }
 {

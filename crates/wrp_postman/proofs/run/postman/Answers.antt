@@ -1,9 +1,7 @@
-use Rattle.wrp_postman.proofs.Telling.{check_told, line_told}
+use Rattle.wrp_postman.specs.Words.{command_in}
+use Rattle.wrp_postman.proofs.Telling.{check_told}
 use Rattle.wrp_postman.proofs.run.postman.Goals as goal
 
-pub returns-in-Some-Check-clause-check : goal.returns-in-Some-Check-clause-check
-returns-in-Some-Check-clause-check g c = λ first second is.
-    check_told _ _ _ _ _ _ (g.S.Source.left c.args.streets.now) (g.P.Source.left c.args.proof_in.now) c.check_files-status.result c.tell.result c.check_files-status.ensures.answers c.tell.ensures.told
-
-pub returns-in-Some-Check-clause-line : goal.returns-in-Some-Check-clause-line
-returns-in-Some-Check-clause-line g c = line_told _ _ _ _ _ _ c.check_files-status.result c.tell.result c.check_files-status.ensures.kind c.tell.ensures.told
+pub returns-in-Some-Check-clause-answer : goal.returns-in-Some-Check-clause-answer
+returns-in-Some-Check-clause-answer g c =
+    rw (← c.in-Some-Check.ensures) (check_told _ _ (command_in c.in-Some-Check.field-0) c.check_files-status.result c.tell.result c.check_files-status.ensures.found c.tell.ensures)
