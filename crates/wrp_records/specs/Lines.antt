@@ -21,7 +21,8 @@ is_mark byte = (byte == comma) || (byte == quote)
 -- a field with each double quote doubled
 unfoldable pub doubled : List ℕ → List ℕ
 doubled [] = []
-doubled (byte ∷ bytes) = if byte == quote then quote ∷ byte ∷ doubled bytes else byte ∷ doubled bytes
+doubled (byte ∷ bytes) =
+    if byte == quote then quote ∷ byte ∷ doubled bytes else byte ∷ doubled bytes
 
 -- a field as it is written: in double quotes exactly where it holds a comma or a double quote
 unfoldable pub field_text : List ℕ → List ℕ

@@ -1,5 +1,5 @@
-//! The records of a proof and its ends, how their lines are written, what they stand for, and the rules
-//! that a valid list of records keeps.
+//! The records of a proof and its ends, how their lines are written, what they stand for, and the
+//! rules that a valid list of records keeps.
 #![tactic(auto)]
 
 mod layout;

@@ -62,7 +62,8 @@ unfoldable pub within_limits : ℕ → Table → Result Table TableFault
 within_limits row table =
     if nat_lt street_limit (length table.streets) then Err (faults.Streets row)
     else if nat_lt junction_limit (length table.junctions) then Err (faults.Junctions row)
-    else if nat_lt demand_limit (length (demands_from 0 table.streets)) then Err (faults.Demands row)
+    else if nat_lt demand_limit (length (demands_from 0 table.streets))
+    then Err (faults.Demands row)
     else Ok table
 
 -- the table with one more record as a row, or the first fault of that record

@@ -52,8 +52,8 @@ fn push_row<'a>(
     backward: &'a [u8],
     need: &'a [u8],
 ) -> Result<(), AllocError>
-    ensures { OnOk result (out.new.items ≡ out.old.items
-        ++ line_text (street.now ∷ from.now ∷ to.now ∷ forward.now ∷ backward.now ∷ need.now ∷ [])) }
+    ensures { OnOk result (out.new.items ≡ out.old.items ++ line_text
+        (street.now ∷ from.now ∷ to.now ∷ forward.now ∷ backward.now ∷ need.now ∷ [])) }
 {
     push_line(out, &[street, from, to, forward, backward, need])
 }

@@ -26,12 +26,14 @@ cost_of town arc =
 -- the junction that an arc leaves
 abbrev pub tail_of : Town → ℕ → ℕ
 tail_of town arc =
-    option_map_or (λ street. if is_forward arc then street.from else street.to) (street_of town arc) 0
+    option_map_or (λ street. if is_forward arc then street.from else street.to)
+    (street_of town arc) 0
 
 -- the junction that an arc enters
 abbrev pub head_of : Town → ℕ → ℕ
 head_of town arc =
-    option_map_or (λ street. if is_forward arc then street.to else street.from) (street_of town arc) 0
+    option_map_or (λ street. if is_forward arc then street.to else street.from)
+    (street_of town arc) 0
 
 -- an arc is legal where its cost stands
 abbrev pub is_legal : Town → ℕ → Bool
