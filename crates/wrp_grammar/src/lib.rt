@@ -1,8 +1,9 @@
 //! The parts of a line: numbers, steps, pairs and sets, read without copying, and the places where a line
-//! leaves the shape or the number rules of a record.
+//! leaves the shape or the number rules of its kind.
 #![tactic(auto)]
 
 mod labels;
+mod layout;
 mod numbers;
 mod parts;
 mod place;
@@ -10,9 +11,10 @@ mod ranges;
 mod text;
 
 pub use labels::{is_slash_text, label_halves};
+pub use layout::{Layout, layout_of};
 pub use numbers::{NumbersOf, next_low};
 pub use parts::{PairsOf, StepsOf};
-pub use place::{Tail, digits_before, form_place, two_numbers};
+pub use place::{digits_before, form_place, two_numbers};
 pub use ranges::number_place;
 pub use text::{
     first_part, goes_on_with_space, halves, is_digits_text, is_sign_byte, read_count,
