@@ -11,11 +11,10 @@ pub mod PairLists
 pub mod SetLists
 pub mod LabelLists
 pub mod Fronts
+pub mod DigitFronts
 pub mod PartFronts
 pub mod LeftFronts
-pub mod PartPlaces
 pub mod LineFronts
-pub mod TwoNumbers
 pub mod FirstNumbers
 pub mod PairNumbers
 pub mod Records
