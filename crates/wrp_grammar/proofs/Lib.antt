@@ -6,10 +6,13 @@ pub mod Digits
 pub mod Written
 pub mod WrittenPairs
 pub mod Spacing
-pub mod StepLists
 pub mod PairLists
 pub mod SetLists
+pub mod Texts
+pub mod ItemTexts
 pub mod LabelLists
+pub mod TailTexts
+pub mod LayoutTexts
 pub mod Fronts
 pub mod DigitFronts
 pub mod PartFronts
@@ -17,8 +20,6 @@ pub mod LeftFronts
 pub mod LineFronts
 pub mod FirstNumbers
 pub mod PairNumbers
-pub mod Records
 pub mod Spread
 pub mod Counts
-pub mod Climbs
 pub mod Joins
