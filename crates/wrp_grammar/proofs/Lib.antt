@@ -19,6 +19,7 @@ pub mod PartFronts
 pub mod LeftFronts
 pub mod LineFronts
 pub mod FirstNumbers
+pub mod LineNumbers
 pub mod PairNumbers
 pub mod Spread
 pub mod Counts

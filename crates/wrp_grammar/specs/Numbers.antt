@@ -1,6 +1,6 @@
 -- The first number of a line that breaks a rule.
-use Rattle.std.specs.Prelude.{codes, ◌≡◌, ℕ, ◌+◌, ◌-◌, ◌^◌, ◌<◌, Bool, true, false, ◌&&◌, ◌||◌, if◌then◌else◌, nat_lt, nat_le, List, [], ◌∷◌, ◌++◌, length, Contains}
-use Rattle.std.specs.List.{list_all}
+use Rattle.std.specs.Prelude.{codes, ◌≡◌, ℕ, ◌+◌, ◌-◌, ◌^◌, ◌<◌, Bool, true, false, ◌&&◌, ◌||◌, if◌then◌else◌, nat_lt, nat_le, List, [], ◌∷◌, ◌++◌, drop, length, Contains}
+use Rattle.std.specs.List.{list_all, list_any}
 use Rattle.wrp_rules.specs.declared.layout.Kind.{Kind}
 use Rattle.wrp_rules.specs.declared.layout.Range.{Range}
 use Rattle.wrp_rules.specs.declared.layout.Tail.{Tail}
@@ -9,7 +9,7 @@ use Rattle.wrp_rules.specs.Layouts.{layout_of}
 use Rattle.wrp_rules.specs.Ranges.{is_in_range}
 use Rattle.wrp_rules.specs.Lines.{spaced}
 use Rattle.wrp_grammar.specs.Parts.{parts_of, first_half, second_half, number_of, is_number, is_index_part, is_from_one_part, are_set_parts, is_step, are_multiplier_parts, are_pair_parts}
-use Rattle.wrp_grammar.specs.Shapes.{is_slash}
+use Rattle.wrp_grammar.specs.Shapes.{is_slash, is_in_layout}
 
 -- a leading number that is written right and in its range
 abbrev pub is_range_part : Range → List ℕ → Bool
@@ -34,6 +34,15 @@ abbrev pub keeps_rules : List Range → Tail → List (List ℕ) → Bool
 keeps_rules [] tail parts = tail_keeps_rules tail parts
 keeps_rules (range ∷ ranges) tail [] = true
 keeps_rules (range ∷ ranges) tail (part ∷ parts) = is_range_part range part && keeps_rules ranges tail parts
+
+-- the line is in the shape of one of these kinds, and its numbers keep the rules
+abbrev pub is_right_in : Kind → List ℕ → Bool
+is_right_in kind line =
+    is_in_layout (layout_of kind) line
+    && keeps_rules (layout_of kind).numbers (layout_of kind).tail (parts_of (drop (length (layout_of kind).word) line))
+
+abbrev pub is_right_line : List Kind → List ℕ → Bool
+is_right_line kinds line = list_any (λ kind. is_right_in kind line) kinds
 
 -- the place in a part of its number that breaks a rule: that of the second number of a pair where the
 -- first one breaks none, so that the pair would keep the rules with 1 for its second number; else that

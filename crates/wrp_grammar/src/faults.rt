@@ -1,10 +1,9 @@
 //! Where a line leaves the shapes of some kinds of lines, and where its first wrong number stands.
-ghost use Rattle.std.specs.Prelude.{◌≡◌, ◌<◌, ◌≤◌, not, true, false, None, is_some, length, slice_index, ℕ, IfSome};
+ghost use Rattle.std.specs.Prelude.{◌≡◌, ◌<◌, ◌≤◌, not, true, false, is_some, length, slice_index, ℕ, IfSome};
 ghost use Rattle.wrp_rules.specs.Layouts.{layout_of as layout_of_kind};
 ghost use Rattle.wrp_grammar.specs.Fronts.{IsLongestFront, is_left};
 ghost use Rattle.wrp_grammar.specs.Shapes.{has_parts_shape, is_in_layout, is_of_kinds};
-ghost use Rattle.wrp_grammar.specs.Numbers.{IsFirstBadOf, IsFirstBadNumber};
-ghost use Rattle.wrp_grammar.specs.Spelling.{is_right, content_in};
+ghost use Rattle.wrp_grammar.specs.Numbers.{is_right_in, is_right_line, IsFirstBadOf, IsFirstBadNumber};
 
 use crate::layout::layout_of;
 use crate::place::parts_form;
@@ -29,11 +28,10 @@ pub fn form_place(kinds: &[Kind], line: &[u8]) -> Option<usize>
     Some(front)
 }
 
-/// The place of the first number that breaks a rule, in a line that is in the shape of one of these kinds
-/// and spells nothing.
+/// The place of the first number that breaks a rule, in a line in the shape of one of these kinds.
 pub fn number_place(kinds: &[Kind], line: &[u8]) -> usize
     requires shape { is_of_kinds kinds.now line.now ≡ true }
-    requires wrong { content_in kinds.now line.now ≡ None }
+    requires wrong { is_right_line kinds.now line.now ≡ false }
     ensures within { result ≤ length line.now }
     ensures first { IsFirstBadNumber kinds.now line.now result }
 {
@@ -94,7 +92,7 @@ fn shared(line: &[u8], text: &[u8]) -> usize
 fn kind_number(kind: Kind, line: &[u8]) -> usize
     requires { is_in_layout (layout_of_kind kind) line.now ≡ true }
     ensures within { result ≤ length line.now }
-    ensures first { is_right kind line.now ≡ false → IsFirstBadOf kind line.now result }
+    ensures first { is_right_in kind line.now ≡ false → IsFirstBadOf kind line.now result }
 {
     let layout = layout_of(kind);
     let behind = layout.word.len();
