@@ -11,10 +11,11 @@ use Rattle.wrp_rules.specs.Contents.{Items, keep_rules}
 use Rattle.wrp_grammar.specs.Parts.{number_of, numbers_of}
 use Rattle.wrp_grammar.specs.Numbers.{is_range_part}
 use Rattle.wrp_grammar.specs.Spelling.{items_of, are_leading}
+use Rattle.wrp_grammar.specs.Reading.{is_small_tail}
 use Rattle.wrp_grammar.proofs.Spacing.{is_solid}
 use Rattle.wrp_grammar.proofs.Texts.{AreTexts, AreParts}
 use Rattle.wrp_grammar.proofs.ItemTexts.{is_short, range-texts}
-use Rattle.wrp_grammar.proofs.TailTexts.{is_right_tail, is_short_tail, tail-parts}
+use Rattle.wrp_grammar.proofs.TailTexts.{is_right_tail, tail-parts}
 
 -- the numbers and the items, their parts, and those that parts spell
 abbrev pub line_parts : (List ℕ × Items) → List (List ℕ)
@@ -99,7 +100,7 @@ one-more range ranges tail number rest = record { written = written; ranged = ra
         ap (λ first. (first ∷ value.0, value.1)) (number.same n both.0) ∙ ap (λ others. (n ∷ others.0, others.1)) (rest.same (ns, items) both.1)
 
 -- a line of each layout whose numbers are read
-pub layout-parts : (ranges : List Range) (tail : Tail) → list_all is_short ranges ≡ true → is_short_tail tail ≡ true → LineParts ranges tail
+pub layout-parts : (ranges : List Range) (tail : Tail) → list_all is_short ranges ≡ true → is_small_tail tail ≡ true → LineParts ranges tail
 layout-parts [] tail short short_tail = no-number tail (tail-parts tail short_tail)
 layout-parts (range ∷ ranges) tail short short_tail =
     let both = and_parts (is_short range) (list_all is_short ranges) short in
