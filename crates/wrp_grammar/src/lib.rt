@@ -2,6 +2,7 @@
 //! leaves the shape or the number rules of its kind.
 #![tactic(auto)]
 
+mod faults;
 mod labels;
 mod layout;
 mod numbers;
@@ -10,12 +11,11 @@ mod place;
 mod ranges;
 mod text;
 
+pub use faults::{form_place, number_place};
 pub use labels::{is_slash_text, label_halves};
 pub use layout::{Layout, layout_of};
 pub use numbers::{NumbersOf, next_low};
 pub use parts::{PairsOf, StepsOf};
-pub use place::{digits_before, form_place, two_numbers};
-pub use ranges::number_place;
 pub use text::{
     first_part, goes_on_with_space, halves, is_digits_text, is_sign_byte, read_count,
     read_from_one, read_index, read_pair, read_step, split_part,
