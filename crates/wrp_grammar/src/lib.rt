@@ -3,7 +3,6 @@
 #![tactic(auto)]
 
 mod labels;
-mod layout;
 mod numbers;
 mod parts;
 mod place;
@@ -11,7 +10,6 @@ mod ranges;
 mod text;
 
 pub use labels::{is_slash_text, label_halves};
-pub use layout::{Layout, layout_of};
 pub use numbers::{NumbersOf, next_low};
 pub use parts::{PairsOf, StepsOf};
 pub use place::{digits_before, form_place, two_numbers};
@@ -20,3 +18,4 @@ pub use text::{
     first_part, goes_on_with_space, halves, is_digits_text, is_sign_byte, read_count,
     read_from_one, read_index, read_pair, read_step, split_part,
 };
+pub use wrp_rules::{Layout, layout_of};

@@ -1,8 +1,8 @@
-//! How each line of a proof is written. Nothing in this crate takes memory.
+//! How each line of a proof is written.
 ghost use Rattle.std.specs.Prelude.{◌≡◌};
 ghost use Rattle.wrp_rules.specs.Layouts.{layout_of as layout_of_kind};
 
-use wrp_rules::{Kind, Range, Tail};
+use crate::layout::{Kind, Range, Tail};
 
 /// A word, leading numbers, each in its range, and what follows them.
 #[derive(Clone, Copy, Debug)]
