@@ -20,6 +20,5 @@ pub mod FirstNumbers
 pub mod PairNumbers
 pub mod Records
 pub mod Spread
-pub mod Counts
 pub mod Climbs
 pub mod Joins
