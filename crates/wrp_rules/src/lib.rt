@@ -10,4 +10,4 @@ mod table;
 pub use layout::{Kind, Range, Tail};
 pub use record::{End, Record};
 pub use rule::Rule;
-pub use table::{Layout, layout_of};
+pub use table::{LONGEST_LINE, Layout, MOST_MULTIPLIERS, layout_of};

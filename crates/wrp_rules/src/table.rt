@@ -12,6 +12,12 @@ pub struct Layout {
     pub tail: Tail,
 }
 
+/// The most multipliers of a record.
+pub const MOST_MULTIPLIERS: usize = 4096;
+
+/// The most bytes of a line of version 2, without its line feed.
+pub const LONGEST_LINE: usize = 1 << 28;
+
 const COUNT: Range = Range::Count;
 
 const INDEX: Range = Range::Index;

@@ -57,11 +57,7 @@ pub(crate) fn content_of(item: &Record) -> Content<'_>
             Numbers::Two([u64::from(*r1), u64::from(*r2)]),
             Items::Numbers(set.as_slice()),
         ),
-        Record::Odd { set } => lent(
-            Kind::Odd,
-            Numbers::Zero,
-            Items::Numbers(set.as_slice()),
-        ),
+        Record::Odd { set } => lent(Kind::Odd, Numbers::Zero, Items::Numbers(set.as_slice())),
         Record::Round { divisor, mult } => lent(
             Kind::Round,
             Numbers::One([*divisor]),

@@ -3,5 +3,12 @@
 
 mod content;
 mod lengths;
+mod limits;
 mod part;
 mod parts;
+mod whole;
+mod writing;
+
+pub use limits::writable;
+pub use whole::proof_text;
+pub use writing::{write_end, write_record};

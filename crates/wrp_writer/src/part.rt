@@ -23,7 +23,12 @@ impl Part {
         match self {
             Part::Number(number) => format!(in alloc; "{number}"),
             Part::Step(Step { street, back: true }) => format!(in alloc; "{street}-"),
-            Part::Step(Step { street, back: false }) => format!(in alloc; "{street}+"),
+            Part::Step(
+                Step {
+                    street,
+                    back: false,
+                },
+            ) => format!(in alloc; "{street}+"),
             Part::Pair(first, second) => format!(in alloc; "{first}:{second}"),
             Part::Slash => format!(in alloc; "/"),
         }
