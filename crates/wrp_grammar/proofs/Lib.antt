@@ -13,6 +13,7 @@ pub mod ItemTexts
 pub mod LabelLists
 pub mod TailTexts
 pub mod LayoutTexts
+pub mod RightLines
 pub mod Fronts
 pub mod DigitFronts
 pub mod PartFronts
@@ -20,6 +21,3 @@ pub mod LeftFronts
 pub mod LineFronts
 pub mod FirstNumbers
 pub mod PairNumbers
-pub mod Spread
-pub mod Counts
-pub mod Joins

@@ -20,7 +20,7 @@ use Rattle.wrp_grammar.proofs.Guards.{guard-some, guard-none}
 use Rattle.wrp_grammar.proofs.Positions.{before-here, after-here, before-more, after-more}
 use Rattle.wrp_grammar.proofs.LabelLists.{is_the_slash, no_slash}
 use Rattle.wrp_grammar.proofs.TailTexts.{is_right_tail, are_labels}
-use Rattle.wrp_grammar.proofs.LayoutTexts.{is_right_line}
+use Rattle.wrp_grammar.proofs.LayoutTexts.{is_read_line}
 
 -- a test that another one implies
 redundant : (a b : Bool) → (b ≡ true → a ≡ true) → (a && b) ≡ b
@@ -123,7 +123,7 @@ one-number : (d r s k l t : Bool) → (r ≡ true → d ≡ true) → (s && k) �
 one-number d true s k l t f e = ap (λ b. (b && s) && k) (f refl) ∙ e
 one-number d false s k l t f e = and-false (d && s)
 
-pub line-right : (ranges : List Range) (tail : Tail) (parts : List (List ℕ)) → (has_parts_shape ranges tail parts && keeps_rules ranges tail parts) ≡ is_right_line ranges tail parts
+pub line-right : (ranges : List Range) (tail : Tail) (parts : List (List ℕ)) → (has_parts_shape ranges tail parts && keeps_rules ranges tail parts) ≡ is_read_line ranges tail parts
 line-right [] tail parts = tail-right tail parts
 line-right (range ∷ ranges) tail [] = refl
 line-right (range ∷ ranges) tail (part ∷ parts) =
@@ -166,7 +166,7 @@ cond-of b c x e = ap (λ d. cond d (Some x) None) e
 
 -- by the leading numbers and what follows them
 behind : (kind : Kind) (left : List ℕ) → is_spaced left ≡ true
-    → content_behind kind left ≡ cond (is_right_line (layout_of kind).numbers (layout_of kind).tail (parts_of left)) (Some (content_of_parts kind (parts_of left))) None
+    → content_behind kind left ≡ cond (is_read_line (layout_of kind).numbers (layout_of kind).tail (parts_of left)) (Some (content_of_parts kind (parts_of left))) None
 behind kind left spaced =
     cond-of ((is_spaced left && has_parts_shape (layout_of kind).numbers (layout_of kind).tail (parts_of left)) && keeps_rules (layout_of kind).numbers (layout_of kind).tail (parts_of left)) _ _
     (ap (λ b. (b && has_parts_shape (layout_of kind).numbers (layout_of kind).tail (parts_of left)) && keeps_rules (layout_of kind).numbers (layout_of kind).tail (parts_of left)) spaced

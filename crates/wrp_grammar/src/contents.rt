@@ -9,7 +9,7 @@ ghost use Rattle.wrp_grammar.specs.Spelling.{are_leading, content_behind};
 ghost use Rattle.wrp_grammar.specs.Reading.{numbers_held, items_held, is_small_tail, items_in, content_held};
 
 use crate::labels::label_halves;
-use crate::layout::layout_of;
+use wrp_rules::layout_of;
 use crate::numbers::NumbersOf;
 use crate::parts::{PairsOf, StepsOf};
 use crate::text::{read_count, read_from_one, read_index, split_part};

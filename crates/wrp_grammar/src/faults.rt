@@ -6,7 +6,7 @@ ghost use Rattle.wrp_grammar.specs.Shapes.{has_parts_shape, is_in_layout, is_of_
 ghost use Rattle.wrp_grammar.specs.Numbers.{IsFirstBadOf, IsFirstBadNumber};
 ghost use Rattle.wrp_grammar.specs.Spelling.{is_right, content_in};
 
-use crate::layout::layout_of;
+use wrp_rules::layout_of;
 use crate::place::parts_form;
 use crate::ranges::parts_number;
 use crate::text::goes_on_with_space;
