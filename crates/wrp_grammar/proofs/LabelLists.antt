@@ -137,25 +137,26 @@ any-place (x ∷ xs) h = go (is_slash x) (position_or_len is_slash xs) h (any-pl
     go true n h f = omega arith
     go false n h f = omega (arith, f h)
 
+-- a slash is one byte
+pub is_the_slash : (part : List ℕ) → is_slash part ≡ true → part ≡ codes "/"
+is_the_slash part e = (bytes_eq-Decides part (codes "/")).0 e
+
 -- parts with a slash among them are what stands before it, the slash, and what stands after it
 pub label-whole : (parts : List (List ℕ)) → list_any is_slash parts ≡ true → parts ≡ before_first is_slash parts ++ codes "/" ∷ after_first is_slash parts
 label-whole parts h =
     let lt = any-place parts h in
     split_at_first is_slash parts [] lt
-    ∙ ap (λ slash. before_first is_slash parts ++ slash ∷ after_first is_slash parts) (named (get_or parts (position_or_len is_slash parts) []) (passes_at_first is_slash parts [] lt))
-  where
-    named : (part : List ℕ) → is_slash part ≡ true → part ≡ codes "/"
-    named part e = (bytes_eq-Decides part (codes "/")).0 e
+    ∙ ap (λ slash. before_first is_slash parts ++ slash ∷ after_first is_slash parts) (is_the_slash (get_or parts (position_or_len is_slash parts) []) (passes_at_first is_slash parts [] lt))
 
 -- no number is a slash
+pub no_slash : (part : List ℕ) → is_index_part part ≡ true → is_slash part ≡ false
+no_slash part h = elim (cases_Bool (is_slash part)) [
+  | inl here ↦ absurd (false≢true (ap is_index_part (sym (is_the_slash part here)) ∙ h))
+  | inr other ↦ other
+]
+
 pub no-slash-among : (parts : List (List ℕ)) → list_all is_index_part parts ≡ true → list_any is_slash parts ≡ false
 no-slash-among [] h = refl
 no-slash-among (part ∷ parts) h =
     let both = and_parts (is_index_part part) (list_all is_index_part parts) h in
     rw (no_slash part both.0, no-slash-among parts both.1) refl
-  where
-    no_slash : (part : List ℕ) → is_index_part part ≡ true → is_slash part ≡ false
-    no_slash part h = elim (cases_Bool (is_slash part)) [
-      | inl here ↦ absurd (false≢true (ap is_index_part (sym ((bytes_eq-Decides part (codes "/")).0 here)) ∙ h))
-      | inr other ↦ other
-    ]

@@ -13,6 +13,7 @@ pub mod ItemTexts
 pub mod LabelLists
 pub mod TailTexts
 pub mod LayoutTexts
+pub mod RightLines
 pub mod Fronts
 pub mod DigitFronts
 pub mod PartFronts
@@ -21,6 +22,3 @@ pub mod LineFronts
 pub mod FirstNumbers
 pub mod LineNumbers
 pub mod PairNumbers
-pub mod Spread
-pub mod Counts
-pub mod Joins

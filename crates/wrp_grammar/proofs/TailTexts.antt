@@ -1,6 +1,6 @@
 -- What follows the leading numbers of a line, and the parts that spell it, for each tail.
-use Rattle.std.proofs.Common.{arith, codes, ◌≡◌, ℕ, ◌<◌, ◌^◌, Bool, true, false, ◌&&◌, ◌||◌, nat_lt, List, [], ◌∷◌, ◌++◌, map, refl, sym, ap, ◌∙◌}
-use Rattle.std.proofs.lemmas.Bool.{and_parts, and_from, ltb-true, false≢true}
+use Rattle.std.proofs.Common.{arith, codes, ◌≡◌, ℕ, ◌<◌, ◌≤◌, ◌^◌, Bool, true, false, ◌&&◌, ◌||◌, nat_lt, nat_le, List, [], ◌∷◌, ◌++◌, map, refl, sym, ap, ◌∙◌}
+use Rattle.std.proofs.lemmas.Bool.{and_parts, and_from, ltb-true, leb-true, false≢true}
 use Rattle.std.proofs.lemmas.List.Folds.{list_all-append}
 use Rattle.std.specs.Fmt.{decimal}
 use Rattle.std.specs.List.{list_all, list_any, before_first, after_first}
@@ -13,6 +13,7 @@ use Rattle.wrp_rules.specs.Contents.{Items, NoItems, Steps, Numbers, Pairs, TwoL
 use Rattle.wrp_grammar.specs.Parts.{numbers_of, is_index_part, are_set_parts, is_step, step_of, pair_of, are_multiplier_parts, are_pair_parts}
 use Rattle.wrp_grammar.specs.Shapes.{is_slash, is_nothing}
 use Rattle.wrp_grammar.specs.Spelling.{items_of}
+use Rattle.wrp_grammar.specs.Reading.{is_small_tail}
 use Rattle.wrp_grammar.proofs.Spacing.{is_solid}
 use Rattle.wrp_grammar.proofs.LabelLists.{label-whole, before-slash, after-slash, slash-there, no-slash-among}
 use Rattle.wrp_grammar.proofs.Texts.{AreParts}
@@ -31,12 +32,6 @@ is_right_tail tails.Indexes parts = list_all is_index_part parts
 is_right_tail (tails.Multipliers most) parts = are_multiplier_parts most parts
 is_right_tail (tails.Pairs most) parts = are_pair_parts most parts
 is_right_tail tails.Labels parts = are_labels parts
-
--- a tail whose numbers are read
-abbrev pub is_short_tail : Tail → Bool
-is_short_tail (tails.Multipliers most) = nat_lt most (2 ^ 99)
-is_short_tail (tails.Pairs most) = nat_lt most (2 ^ 99)
-is_short_tail tail = true
 
 -- the items are such values
 record Holds (A : Type 0) (wrap : A → Items) (ranged : A → Bool) (items : Items) : Type 0 where
@@ -158,11 +153,17 @@ holds-lists : (items : Items) → keep_rules tails.Labels items ≡ true → Hol
 holds-lists (TwoLists first second) h = record { value = (first, second); same = refl; in_range = h }
 holds-lists _ h = absurd (false≢true h)
 
-pub tail-parts : (tail : Tail) → is_short_tail tail ≡ true → AreParts Items item_parts (items_of tail) (is_right_tail tail) (keep_rules tail)
+below_wide : (most : ℕ) → nat_lt most (2 ^ 64) ≡ true → most < 2 ^ 99
+below_wide most h = let small : most < 2 ^ 64 = ltb-true most (2 ^ 64) h in omega arith
+
+up_to_wide : (most : ℕ) → nat_le most (2 ^ 72) ≡ true → most < 2 ^ 99
+up_to_wide most h = let small : most ≤ 2 ^ 72 = leb-true most (2 ^ 72) h in omega arith
+
+pub tail-parts : (tail : Tail) → is_small_tail tail ≡ true → AreParts Items item_parts (items_of tail) (is_right_tail tail) (keep_rules tail)
 tail-parts tails.Nothing short = no-items
 tail-parts tails.Steps short = wrapped _ _ _ _ _ steps-parts Steps (keep_rules tails.Steps) (λ a. refl) (λ a. refl) holds-steps
 tail-parts tails.Set short = wrapped _ _ _ _ _ set-parts Numbers (keep_rules tails.Set) (λ a. refl) (λ a. refl) holds-set
 tail-parts tails.Indexes short = wrapped _ _ _ _ _ indexes-parts Numbers (keep_rules tails.Indexes) (λ a. refl) (λ a. refl) holds-indexes
-tail-parts (tails.Multipliers most) short = wrapped _ _ _ _ _ (multipliers-parts most (ltb-true most (2 ^ 99) short)) Pairs (keep_rules (tails.Multipliers most)) (λ a. refl) (λ a. refl) (holds-multipliers most)
-tail-parts (tails.Pairs most) short = wrapped _ _ _ _ _ (pairs-parts most (ltb-true most (2 ^ 99) short)) Pairs (keep_rules (tails.Pairs most)) (λ a. refl) (λ a. refl) (holds-pairs most)
+tail-parts (tails.Multipliers most) short = wrapped _ _ _ _ _ (multipliers-parts most (below_wide most short)) Pairs (keep_rules (tails.Multipliers most)) (λ a. refl) (λ a. refl) (holds-multipliers most)
+tail-parts (tails.Pairs most) short = wrapped _ _ _ _ _ (pairs-parts most (up_to_wide most short)) Pairs (keep_rules (tails.Pairs most)) (λ a. refl) (λ a. refl) (holds-pairs most)
 tail-parts tails.Labels short = wrapped _ _ _ _ _ labels-parts (λ lists. TwoLists lists.0 lists.1) (keep_rules tails.Labels) (λ a. refl) (λ a. refl) holds-lists

@@ -5,7 +5,7 @@ ghost use Rattle.wrp_grammar.specs.Fronts.{IsLongestFront, is_left};
 ghost use Rattle.wrp_grammar.specs.Shapes.{has_parts_shape, is_in_layout, is_of_kinds};
 ghost use Rattle.wrp_grammar.specs.Numbers.{is_right_in, is_right_line, IsFirstBadOf, IsFirstBadNumber};
 
-use crate::layout::layout_of;
+use wrp_rules::layout_of;
 use crate::place::parts_form;
 use crate::ranges::parts_number;
 use crate::text::goes_on_with_space;

@@ -1,22 +1,18 @@
 //! The parts of a line: numbers, steps, pairs and sets, read without copying, and the places where a line
-//! leaves the shape or the number rules of its kind.
+//! leaves the shape or the number rules of its kind. Nothing here takes memory.
 #![tactic(auto)]
 
+mod contents;
 mod faults;
 mod labels;
-mod layout;
 mod numbers;
 mod parts;
 mod place;
 mod ranges;
 mod text;
 
+pub use contents::{ContentOf, ItemsOf, Leading, read_content};
 pub use faults::{form_place, number_place};
-pub use labels::{is_slash_text, label_halves};
-pub use layout::{Layout, layout_of};
-pub use numbers::{NumbersOf, next_low};
+pub use numbers::NumbersOf;
 pub use parts::{PairsOf, StepsOf};
-pub use text::{
-    first_part, goes_on_with_space, halves, is_digits_text, is_sign_byte, read_count,
-    read_from_one, read_index, read_pair, read_step, split_part,
-};
+pub use text::goes_on_with_space;

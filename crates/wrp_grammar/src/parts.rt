@@ -38,8 +38,7 @@ impl<'a> Model for StepsOf<'a> {
 impl<'a> StepsOf<'a> {
     /// The steps of parts, where each of them is a step that is written right.
     pub fn new(left: &'a [u8]) -> Option<StepsOf<'a>>
-        ensures some { is_some result ≡ list_all is_step (parts_of left.now) }
-        ensures steps { IfSome result (λ s. s ≡ map step_of (parts_of left.now)) }
+        ensures { result ≡ (if list_all is_step (parts_of left.now) then Some (map step_of (parts_of left.now)) else None) }
     {
         if are_steps(left) {
             Some(StepsOf { left })
@@ -116,12 +115,13 @@ impl<'a> PairsOf<'a> {
     }
 
     /// The pairs of parts, where they are written right: ascending first numbers, and second numbers from
-    /// 1 to 2^72.
+    /// 1 to `most`.
     #[tactic(auto, using(crate::proofs::PairLists::few_pairs))]
-    pub fn pairs(left: &'a [u8]) -> Option<PairsOf<'a>>
-        ensures { result ≡ (if are_pair_parts (2 ^ 72) (parts_of left.now) then Some (map pair_of (parts_of left.now)) else None) }
+    pub fn pairs(left: &'a [u8], most: u128) -> Option<PairsOf<'a>>
+        requires { most ≤ 2 ^ 72 }
+        ensures { result ≡ (if are_pair_parts most (parts_of left.now) then Some (map pair_of (parts_of left.now)) else None) }
     {
-        if are_pairs_text(left, MOST_SECOND, left.len()) {
+        if are_pairs_text(left, most, left.len()) {
             Some(PairsOf { left })
         } else {
             None

@@ -1,8 +1,8 @@
-//! How each line of a proof is written. Nothing in this crate takes memory.
+//! How each line of a proof is written.
 ghost use Rattle.std.specs.Prelude.{◌≡◌};
 ghost use Rattle.wrp_rules.specs.Layouts.{layout_of as layout_of_kind};
 
-use wrp_rules::{Kind, Range, Tail};
+use crate::layout::{Kind, Range, Tail};
 
 /// A word, leading numbers, each in its range, and what follows them.
 #[derive(Clone, Copy, Debug)]
@@ -11,6 +11,12 @@ pub struct Layout {
     pub numbers: &'static [Range],
     pub tail: Tail,
 }
+
+/// The most multipliers of a record.
+pub const MOST_MULTIPLIERS: usize = 4096;
+
+/// The most bytes of a line of version 2, without its line feed.
+pub const LONGEST_LINE: usize = 1 << 28;
 
 const COUNT: Range = Range::Count;
 

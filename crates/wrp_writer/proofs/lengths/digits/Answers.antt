@@ -1,7 +1,7 @@
 use Rattle.std.proofs.Common.{length, ap, arith}
 use Rattle.std.proofs.lemmas.Fmt.{decimal_digit}
-use Rattle.wrp_grammar.proofs.Counts.{one-more-digit, few-digits}
-use Rattle.wrp_proof.proofs.lengths.digits.Goals as goal
+use Rattle.wrp_writer.proofs.Counts.{one-more-digit, few-digits}
+use Rattle.wrp_writer.proofs.lengths.digits.Goals as goal
 
 pub overflow_add-count : goal.overflow_add-count
 overflow_add-count c = omega (arith, c.loop-rest.invariant.digits, few-digits c.args.number c.ranges.number.fits)
