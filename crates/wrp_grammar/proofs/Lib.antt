@@ -22,3 +22,4 @@ pub mod LineFronts
 pub mod FirstNumbers
 pub mod LineNumbers
 pub mod PairNumbers
+pub mod KindLines
