@@ -21,4 +21,5 @@ pub mod LeftFronts
 pub mod LineFronts
 pub mod FirstNumbers
 pub mod LineNumbers
+pub mod PlaceLaws
 pub mod PairNumbers

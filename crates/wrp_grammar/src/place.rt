@@ -2,7 +2,7 @@
 ghost use Rattle.std.specs.Prelude.{◌≡◌, ◌≤◌, not, true, is_some, length, IfSome};
 ghost use Rattle.std.specs.Char.{is_ascii_digit};
 ghost use Rattle.std.specs.List.{list_all, prefix_len};
-ghost use Rattle.wrp_grammar.specs.Fronts.{IsLongestFront, is_left};
+ghost use Rattle.wrp_grammar.specs.Fronts.{IsLongestFront, IsLeftFront};
 ghost use Rattle.wrp_grammar.specs.Parts.{parts_of, is_spaced, is_digits, is_step_shape, is_pair_shape};
 ghost use Rattle.wrp_grammar.specs.Shapes.{is_nothing, is_label, has_labels_shape, is_part_of, has_tail_shape, has_parts_shape};
 
@@ -10,12 +10,13 @@ use crate::labels::is_slash_text;
 use crate::text::{halves, is_digits_text, is_sign_byte, split_part};
 use wrp_rules::{Range, Tail};
 
-/// The place at which what is left of a line breaks the shape of leading numbers and what follows them.
+/// The place at which what is left of a line breaks the shape of leading numbers and a tail.
 pub fn parts_form(left: &[u8], numbers: &[Range], tail: Tail) -> Option<usize>
     requires { is_spaced left.now ≡ true }
     ensures broken { is_some result ≡ not (has_parts_shape numbers.now tail (parts_of left.now)) }
     ensures within { IfSome result (λ at. at ≤ length left.now) }
-    ensures front { IfSome result (λ at. IsLongestFront (is_left (has_parts_shape numbers.now tail)) left.now at) }
+    ensures front { IfSome result
+        (λ at. IsLeftFront (has_parts_shape numbers.now tail) left.now at) }
 {
     let Some((_, ranges)) = numbers.split_first() else {
         return tail_form(left, tail);
@@ -37,16 +38,13 @@ fn tail_form(left: &[u8], tail: Tail) -> Option<usize>
     requires { is_spaced left.now ≡ true }
     ensures broken { is_some result ≡ not (has_tail_shape tail (parts_of left.now)) }
     ensures within { IfSome result (λ at. at ≤ length left.now) }
-    ensures front { IfSome result (λ at. IsLongestFront (is_left (has_tail_shape tail)) left.now at) }
+    ensures front { IfSome result (λ at. IsLeftFront (has_tail_shape tail) left.now at) }
 {
     match tail {
         Tail::Nothing => nothing_form(left),
         Tail::Labels => labels_form(left),
-        Tail::Steps
-        | Tail::Set
-        | Tail::Indexes
-        | Tail::Multipliers { .. }
-        | Tail::Pairs { .. } => list_form(left, tail),
+        Tail::Steps | Tail::Set | Tail::Indexes | Tail::Multipliers { .. } | Tail::Pairs { .. } =>
+            list_form(left, tail),
     }
 }
 
@@ -55,7 +53,7 @@ fn nothing_form(left: &[u8]) -> Option<usize>
     requires { is_spaced left.now ≡ true }
     ensures broken { is_some result ≡ not (is_nothing (parts_of left.now)) }
     ensures within { IfSome result (λ at. at ≤ length left.now) }
-    ensures front { IfSome result (λ at. IsLongestFront (is_left is_nothing) left.now at) }
+    ensures front { IfSome result (λ at. IsLeftFront is_nothing left.now at) }
 {
     if split_part(left).is_some() {
         Some(0)
@@ -69,7 +67,7 @@ fn labels_form(line: &[u8]) -> Option<usize>
     requires { is_spaced line.now ≡ true }
     ensures broken { is_some result ≡ not (has_labels_shape (parts_of line.now)) }
     ensures within { IfSome result (λ at. at ≤ length line.now) }
-    ensures front { IfSome result (λ at. IsLongestFront (is_left has_labels_shape) line.now at) }
+    ensures front { IfSome result (λ at. IsLeftFront has_labels_shape line.now at) }
 {
     let mut left = line;
     while let Some((part, others)) = split_part(left) {
@@ -108,7 +106,7 @@ fn list_form(line: &[u8], tail: Tail) -> Option<usize>
     requires { is_spaced line.now ≡ true }
     ensures broken { is_some result ≡ not (list_all (is_part_of tail) (parts_of line.now)) }
     ensures within { IfSome result (λ at. at ≤ length line.now) }
-    ensures front { IfSome result (λ at. IsLongestFront (is_left (list_all (is_part_of tail))) line.now at) }
+    ensures front { IfSome result (λ at. IsLeftFront (list_all (is_part_of tail)) line.now at) }
 {
     let mut left = line;
     while let Some((part, others)) = split_part(left) {
