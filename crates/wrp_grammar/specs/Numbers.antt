@@ -98,8 +98,7 @@ HasLimit tail = Unit {0}
 abbrev pub are_few_pairs : ℕ → ℕ → List (List ℕ) → Bool
 are_few_pairs most room parts = are_pair_parts most parts && nat_le (length parts) room
 
--- the first number of the next pair breaks no rule: it is written right, there is room, and it isn't
--- below low
+-- the next pair's first number breaks no rule: it is written right and not below low, and has room
 abbrev pub is_next_first : ℕ → ℕ → List ℕ → Bool
 is_next_first low room part =
     is_index_part (first_half part) && (nat_lt 0 room && nat_le low (number_of (first_half part)))

@@ -45,7 +45,6 @@ pub fn number_place(kinds: &[Kind], line: &[u8]) -> usize
 /// The place at which a line leaves the shape of a kind.
 fn kind_form(kind: Kind, line: &[u8]) -> Option<usize>
     ensures broken { is_some result ≡ not (is_in_layout (layout_of_kind kind) line.now) }
-    ensures within { IfSome result (λ at. at ≤ length line.now) }
     ensures front { IfSome result
         (λ at. IsLongestFront (is_in_layout (layout_of_kind kind)) line.now at) }
 {
@@ -63,7 +62,6 @@ fn kind_form(kind: Kind, line: &[u8]) -> Option<usize>
 /// The place at which what is left of a line behind its word leaves the shape of its kind.
 fn left_form(left: &[u8], numbers: &[Range], tail: Tail) -> Option<usize>
     ensures broken { is_some result ≡ not (is_left (has_parts_shape numbers.now tail) left.now) }
-    ensures within { IfSome result (λ at. at ≤ length left.now) }
     ensures front { IfSome result
         (λ at. IsLeftFront (has_parts_shape numbers.now tail) left.now at) }
 {

@@ -8,7 +8,7 @@ ghost use Rattle.wrp_grammar.specs.Spelling.{content_in};
 
 use wrp_rules::Kind;
 
-/// A line leaves its shapes in one place, and one place is that of its first number that breaks a rule.
+/// A line leaves its shapes in one place, and its first number that breaks a rule has one place.
 /// It spells something just where it is right.
 pub fn place_laws(kinds: &[Kind], line: &[u8])
     ensures form { IsOnePlace (IsLongestFront (is_of_kinds kinds.now) line.now) }

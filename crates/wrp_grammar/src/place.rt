@@ -14,7 +14,6 @@ use wrp_rules::{Range, Tail};
 pub fn parts_form(left: &[u8], numbers: &[Range], tail: Tail) -> Option<usize>
     requires { is_spaced left.now ≡ true }
     ensures broken { is_some result ≡ not (has_parts_shape numbers.now tail (parts_of left.now)) }
-    ensures within { IfSome result (λ at. at ≤ length left.now) }
     ensures front { IfSome result
         (λ at. IsLeftFront (has_parts_shape numbers.now tail) left.now at) }
 {
@@ -37,7 +36,6 @@ pub fn parts_form(left: &[u8], numbers: &[Range], tail: Tail) -> Option<usize>
 fn tail_form(left: &[u8], tail: Tail) -> Option<usize>
     requires { is_spaced left.now ≡ true }
     ensures broken { is_some result ≡ not (has_tail_shape tail (parts_of left.now)) }
-    ensures within { IfSome result (λ at. at ≤ length left.now) }
     ensures front { IfSome result (λ at. IsLeftFront (has_tail_shape tail) left.now at) }
 {
     match tail {
@@ -52,7 +50,6 @@ fn tail_form(left: &[u8], tail: Tail) -> Option<usize>
 fn nothing_form(left: &[u8]) -> Option<usize>
     requires { is_spaced left.now ≡ true }
     ensures broken { is_some result ≡ not (is_nothing (parts_of left.now)) }
-    ensures within { IfSome result (λ at. at ≤ length left.now) }
     ensures front { IfSome result (λ at. IsLeftFront is_nothing left.now at) }
 {
     if split_part(left).is_some() {
@@ -66,7 +63,6 @@ fn nothing_form(left: &[u8]) -> Option<usize>
 fn labels_form(line: &[u8]) -> Option<usize>
     requires { is_spaced line.now ≡ true }
     ensures broken { is_some result ≡ not (has_labels_shape (parts_of line.now)) }
-    ensures within { IfSome result (λ at. at ≤ length line.now) }
     ensures front { IfSome result (λ at. IsLeftFront has_labels_shape line.now at) }
 {
     let mut left = line;
@@ -88,8 +84,7 @@ fn labels_form(line: &[u8]) -> Option<usize>
 
 /// The place at which a part breaks the shapes of a label and of a slash.
 fn label_form(part: &[u8]) -> usize
-    ensures within { result ≤ length part.now }
-    ensures front { IsLongestFront is_label part.now result }
+    ensures { IsLongestFront is_label part.now result }
 {
     let Some((byte, _)) = part.split_first() else {
         return 0;
@@ -105,7 +100,6 @@ fn label_form(part: &[u8]) -> usize
 fn list_form(line: &[u8], tail: Tail) -> Option<usize>
     requires { is_spaced line.now ≡ true }
     ensures broken { is_some result ≡ not (list_all (is_part_of tail) (parts_of line.now)) }
-    ensures within { IfSome result (λ at. at ≤ length line.now) }
     ensures front { IfSome result (λ at. IsLeftFront (list_all (is_part_of tail)) line.now at) }
 {
     let mut left = line;
@@ -121,7 +115,6 @@ fn list_form(line: &[u8], tail: Tail) -> Option<usize>
 /// The place at which a part breaks its shape.
 fn part_form(part: &[u8], tail: Tail) -> Option<usize>
     ensures broken { is_some result ≡ not (is_part_of tail part.now) }
-    ensures within { IfSome result (λ at. at ≤ length part.now) }
     ensures front { IfSome result (λ at. IsLongestFront (is_part_of tail) part.now at) }
 {
     match tail {
@@ -134,7 +127,6 @@ fn part_form(part: &[u8], tail: Tail) -> Option<usize>
 /// The place at which a part breaks the shape of a number.
 fn digits_form(part: &[u8]) -> Option<usize>
     ensures broken { is_some result ≡ not (is_digits part.now) }
-    ensures within { IfSome result (λ at. at ≤ length part.now) }
     ensures front { IfSome result (λ at. IsLongestFront is_digits part.now at) }
 {
     if is_digits_text(part) {
@@ -147,7 +139,6 @@ fn digits_form(part: &[u8]) -> Option<usize>
 /// The place at which a part breaks the shape of a step.
 fn step_form(part: &[u8]) -> Option<usize>
     ensures broken { is_some result ≡ not (is_step_shape part.now) }
-    ensures within { IfSome result (λ at. at ≤ length part.now) }
     ensures front { IfSome result (λ at. IsLongestFront is_step_shape part.now at) }
 {
     match part.split_last() {
@@ -158,8 +149,7 @@ fn step_form(part: &[u8]) -> Option<usize>
 
 /// The number of bytes with which a text begins as a step does.
 fn step_before(text: &[u8]) -> usize
-    ensures within { result ≤ length text.now }
-    ensures front { IsLongestFront is_step_shape text.now result }
+    ensures { IsLongestFront is_step_shape text.now result }
 {
     let digits = digits_before(text);
     if digits > 0 && digits < text.len() && is_sign_byte(text[digits]) {
@@ -172,7 +162,6 @@ fn step_before(text: &[u8]) -> usize
 /// The place at which a part breaks the shape of a pair.
 fn pair_form(part: &[u8]) -> Option<usize>
     ensures broken { is_some result ≡ not (is_pair_shape part.now) }
-    ensures within { IfSome result (λ at. at ≤ length part.now) }
     ensures front { IfSome result (λ at. IsLongestFront is_pair_shape part.now at) }
 {
     let (first, second) = halves(part);
@@ -185,8 +174,7 @@ fn pair_form(part: &[u8]) -> Option<usize>
 
 /// The number of bytes with which a text begins as a pair does.
 fn pair_before(text: &[u8]) -> usize
-    ensures within { result ≤ length text.now }
-    ensures front { IsLongestFront is_pair_shape text.now result }
+    ensures { IsLongestFront is_pair_shape text.now result }
 {
     let first = digits_before(text);
     if first > 0 && first < text.len() && text[first] == b':' {
