@@ -1,18 +1,17 @@
 -- A line leaves its shapes in one place, and in one place the first number stands that breaks a rule.
-use Rattle.std.proofs.Common.{inl, inr, arith, Some, None, is_some, ◌≡◌, ℕ, ◌+◌, ◌<◌, zero, suc, Bool, true, false, cond, not, ◌==◌, ◌&&◌, ◌||◌, nat_eq, get_or, List, [], ◌∷◌, ◌++◌, length, drop, refl, sym, ap, ◌∙◌, subst}
-use Rattle.std.proofs.lemmas.Bool.{and_parts, cases_Bool, eqb-true, ne_eqb, eq-eqb, false≢true, true≢false}
+use Rattle.std.proofs.Common.{arith, Some, None, is_some, ◌≡◌, ℕ, ◌+◌, ◌<◌, zero, suc, Bool, true, false, cond, not, ◌==◌, ◌&&◌, ◌||◌, nat_eq, get_or, List, [], ◌∷◌, ◌++◌, length, drop, refl, sym, ap, ◌∙◌, subst}
+use Rattle.std.proofs.lemmas.Bool.{and_parts, eq-eqb, false≢true}
 use Rattle.std.proofs.lemmas.Bool.Decides.{Decides-eqb}
 use Rattle.std.proofs.lemmas.List.{append_cancel_left}
 use Rattle.std.proofs.lemmas.Slice.Eq.{starts_is}
-use Rattle.std.specs.List.{list_all, list_any, starts_with}
+use Rattle.std.specs.List.{list_all, starts_with}
 use Rattle.wrp_rules.specs.declared.layout.Kind.{Kind}
 use Rattle.wrp_rules.specs.Layouts.{layout_of, record_kinds, end_kinds}
 use Rattle.wrp_rules.specs.Lines.{spaced}
 use Rattle.wrp_grammar.specs.Fronts.{IsLongestFront, IsOnePlace}
-use Rattle.wrp_grammar.specs.Numbers.{keeps_rules, place_in, is_right_behind, is_right_in, is_right_line, IsFirstBad, IsFirstBadOf, IsFirstBadNumber}
-use Rattle.wrp_grammar.specs.Spelling.{content_of_parts, content_behind, content_in}
+use Rattle.wrp_grammar.specs.Numbers.{keeps_rules, place_in, is_right_behind, is_right_line, IsFirstBad, IsFirstBadOf, IsFirstBadNumber}
+use Rattle.wrp_grammar.specs.Spelling.{content_of_parts, content_in}
 use Rattle.wrp_grammar.specs.Parts.{parts_of}
-use Rattle.wrp_grammar.proofs.Guards.{guard-test}
 
 pub one-front : (shape : List ℕ → Bool) (text : List ℕ) → IsOnePlace (IsLongestFront shape text)
 one-front shape text m n h k = omega (arith, h.longest n k.more k.within k.begins, k.longest m h.more h.within h.begins)

@@ -4,7 +4,7 @@ use Rattle.std.specs.List.{list_all, list_any, starts_with}
 use Rattle.wrp_rules.specs.declared.layout.Kind.{Kind}
 use Rattle.wrp_rules.specs.declared.layout.Range.{Range}
 use Rattle.wrp_rules.specs.declared.layout.Tail.{Tail}
-use Rattle.wrp_rules.specs.declared.layout.Tail.TheVariants.{Nothing, Steps, Set, Indexes, Multipliers, Pairs, Labels}
+use Rattle.wrp_rules.specs.declared.layout.Tail.TheVariants.{Nothing, Steps, Set, Multipliers, Pairs, Labels}
 use Rattle.wrp_rules.specs.Layouts.{layout_of}
 use Rattle.wrp_rules.specs.Ranges.{is_in_range}
 use Rattle.wrp_rules.specs.Lines.{spaced}
