@@ -23,3 +23,4 @@ pub mod FirstNumbers
 pub mod LineNumbers
 pub mod PlaceLaws
 pub mod PairNumbers
+pub mod KindLines

@@ -10,7 +10,7 @@ use Rattle.wrp_rules.specs.declared.record.Record.{Record}
 use Rattle.wrp_rules.specs.declared.record.Record.TheVariants.{Tour, Conn, Odd, Round, Kc, Bound, Empty, Apart, Point, Blind, Split, Labels}
 use Rattle.wrp_rules.specs.declared.record.End.{End}
 use Rattle.wrp_rules.specs.declared.record.End.TheVariants.{Optimal, Infeasible, Unfinished}
-use Rattle.wrp_rules.specs.Layouts.{Layout, layout_of, record_kinds, end_kinds}
+use Rattle.wrp_rules.specs.Layouts.{layout_of, record_kinds, end_kinds}
 use Rattle.wrp_rules.specs.Contents.{Items, NoItems, Steps, Numbers, Pairs, TwoLists, Content, content}
 use Rattle.wrp_grammar.specs.Parts.{parts_of, numbers_of, step_of, pair_of}
 use Rattle.wrp_grammar.specs.Shapes.{is_slash}
