@@ -1,17 +1,20 @@
 -- A line leaves its shapes in one place, and in one place the first number stands that breaks a rule.
 use Rattle.std.proofs.Common.{arith, Some, None, is_some, ◌≡◌, ℕ, ◌+◌, ◌<◌, zero, suc, Bool, true, false, cond, not, ◌==◌, ◌&&◌, ◌||◌, nat_eq, get_or, List, [], ◌∷◌, ◌++◌, length, drop, refl, sym, ap, ◌∙◌, subst}
+use Rattle.std.proofs.Math.Bool.{and-false}
 use Rattle.std.proofs.lemmas.Bool.{and_parts, eq-eqb, false≢true}
 use Rattle.std.proofs.lemmas.Bool.Decides.{Decides-eqb}
 use Rattle.std.proofs.lemmas.List.{append_cancel_left}
 use Rattle.std.proofs.lemmas.Slice.Eq.{starts_is}
 use Rattle.std.specs.List.{list_all, starts_with}
 use Rattle.wrp_rules.specs.declared.layout.Kind.{Kind}
-use Rattle.wrp_rules.specs.Layouts.{layout_of, record_kinds, end_kinds}
+use Rattle.wrp_rules.specs.Layouts.{layout_of}
 use Rattle.wrp_rules.specs.Lines.{spaced}
 use Rattle.wrp_grammar.specs.Fronts.{IsLongestFront, IsOnePlace}
 use Rattle.wrp_grammar.specs.Numbers.{keeps_rules, place_in, is_right_behind, is_right_line, IsFirstBad, IsFirstBadOf, IsFirstBadNumber}
 use Rattle.wrp_grammar.specs.Spelling.{content_of_parts, content_in}
 use Rattle.wrp_grammar.specs.Parts.{parts_of}
+use Rattle.wrp_grammar.specs.Shapes.{goes_on_in}
+use Rattle.wrp_grammar.specs.Words.{are_apart, words_are_apart}
 
 pub one-front : (shape : List ℕ → Bool) (text : List ℕ) → IsOnePlace (IsLongestFront shape text)
 one-front shape text m n h k = omega (arith, h.longest n k.more k.within k.begins, k.longest m h.more h.within h.begins)
@@ -37,16 +40,6 @@ one-first keep left m n h k =
     ∙ sym k.place
 
 -- ---- the word of a line tells its kind
-
--- two words differ in a byte
-abbrev pub are_apart : List ℕ → List ℕ → Bool
-are_apart [] word = false
-are_apart (b ∷ one) [] = false
-are_apart (b ∷ one) (c ∷ other) = not (b == c) || are_apart one other
-
-abbrev pub words_are_apart : List Kind → Bool
-words_are_apart [] = true
-words_are_apart (kind ∷ kinds) = list_all (λ other. are_apart (layout_of kind).word (layout_of other).word) kinds && words_are_apart kinds
 
 apart-differ : (one other x y : List ℕ) → are_apart one other ≡ true → one ++ x ≡ other ++ y → ⊥
 apart-differ [] other x y h e = false≢true h
@@ -92,12 +85,6 @@ one-number kinds apart line m n h k =
     ∙ kk.2 in
     one-of h.kind line m n h.number (subst (λ kind. IsFirstBadOf kind line n) (sym same) k.number)
 
-pub one-record_number : (line : List ℕ) → IsOnePlace (IsFirstBadNumber record_kinds line)
-one-record_number line = one-number record_kinds refl line
-
-pub one-end_number : (line : List ℕ) → IsOnePlace (IsFirstBadNumber end_kinds line)
-one-end_number line = one-number end_kinds refl line
-
 -- ---- a line spells something just where it is right
 
 -- no other kind has a line that begins with this word
@@ -127,8 +114,38 @@ content-right (kind ∷ kinds) apart line =
     go true false others e none = sym (none refl)
     go false right others e none = e
 
-pub record-right : (line : List ℕ) → is_some (content_in record_kinds line) ≡ is_right_line record_kinds line
-record-right line = content-right record_kinds refl line
+-- ---- a line with a number that breaks a rule is not right
 
-pub end-right : (line : List ℕ) → is_some (content_in end_kinds line) ≡ is_right_line end_kinds line
-end-right line = content-right end_kinds refl line
+wrong-at : (kinds : List Kind) → words_are_apart kinds ≡ true → (i : ℕ) (d : Kind) (line left : List ℕ) → i < length kinds → line ≡ (layout_of (get_or kinds i d)).word ++ left → is_right_behind (get_or kinds i d) left ≡ false → is_right_line kinds line ≡ false
+wrong-at [] apart i d line left lt text wrong = absurd (omega arith)
+wrong-at (kind ∷ kinds) apart zero d line left lt text wrong =
+    let word = (layout_of kind).word in
+    let both = and_parts (list_all (λ other. are_apart word (layout_of other).word) kinds) (words_are_apart kinds) apart in
+    let is = starts_is Decides-eqb line word (starts_with nat_eq line word) refl in
+    let here = is.1 left text in
+    let rest = append_cancel_left word (drop (length word) line) left (sym (is.0 here) ∙ text) in
+    ap (λ s. (s && is_right_behind kind (drop (length word) line)) || is_right_line kinds line) here
+    ∙ ap (λ bytes. is_right_behind kind bytes || is_right_line kinds line) rest
+    ∙ ap (λ r. r || is_right_line kinds line) wrong
+    ∙ no-other kind kinds line both.0 here
+wrong-at (kind ∷ kinds) apart (suc i) d line left lt text wrong =
+    ap (λ s. (s && is_right_behind kind (drop (length (layout_of kind).word) line)) || is_right_line kinds line) (elsewhere (starts_with nat_eq line (layout_of kind).word) refl)
+    ∙ wrong-at kinds (and_parts (list_all (λ other. are_apart (layout_of kind).word (layout_of other).word) kinds) (words_are_apart kinds) apart).1 i d line left (omega arith) text wrong
+  where
+    elsewhere : (b : Bool) → starts_with nat_eq line (layout_of kind).word ≡ b → starts_with nat_eq line (layout_of kind).word ≡ false
+    elsewhere false e = e
+    elsewhere true e =
+        let word = (layout_of kind).word in
+        let one = (starts_is Decides-eqb line word true (sym e)).0 refl in
+        let here = (and_parts (list_all (λ other. are_apart word (layout_of other).word) kinds) (words_are_apart kinds) apart).0 in
+        absurd (apart-differ word (layout_of (get_or kinds i d)).word (drop (length word) line) left (all-at (λ other. are_apart word (layout_of other).word) kinds i d (omega arith) here) (sym one ∙ text))
+
+pub bad-wrong : (kinds : List Kind) → words_are_apart kinds ≡ true → (line : List ℕ) (at : ℕ) → IsFirstBadNumber kinds line at → is_right_line kinds line ≡ false
+bad-wrong kinds apart line at h =
+    let n = h.number in
+    let l = layout_of h.kind in
+    let where_is = h.among in
+    let broken : keeps_rules l.numbers l.tail (parts_of n.left) ≡ false = ap (keeps_rules l.numbers l.tail) n.first.parts ∙ n.first.bad n.first.after in
+    wrong-at kinds apart where_is.0 h.kind line n.left where_is.1
+    (n.text ∙ ap (λ kind. (layout_of kind).word ++ n.left) (sym where_is.2))
+    (ap (λ kind. is_right_behind kind n.left) where_is.2 ∙ ap (λ k. goes_on_in l n.left && k) broken ∙ and-false (goes_on_in l n.left))

@@ -14,7 +14,7 @@ mod text;
 
 pub use contents::{ContentOf, ItemsOf, Leading, read_content};
 pub use faults::{form_place, number_place};
-pub use laws::place_laws;
+pub use laws::{place_laws, word_laws};
 pub use numbers::NumbersOf;
 pub use parts::{PairsOf, StepsOf};
 pub use text::goes_on_with_space;
