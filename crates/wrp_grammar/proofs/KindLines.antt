@@ -9,8 +9,8 @@ use Rattle.wrp_rules.specs.Lines.{line_with}
 use Rattle.wrp_rules.specs.Contents.{Items, Content, content, keeps_number_rules}
 use Rattle.wrp_grammar.specs.Parts.{is_spaced, parts_of}
 use Rattle.wrp_grammar.specs.Shapes.{has_parts_shape}
-use Rattle.wrp_grammar.specs.Numbers.{keeps_rules}
-use Rattle.wrp_grammar.specs.Spelling.{is_right_behind, content_of_parts, content_behind}
+use Rattle.wrp_grammar.specs.Numbers.{keeps_rules, is_right_behind}
+use Rattle.wrp_grammar.specs.Spelling.{content_of_parts, content_behind}
 use Rattle.wrp_grammar.specs.Reading.{is_small_tail}
 use Rattle.wrp_grammar.proofs.Guards.{guard-some}
 use Rattle.wrp_grammar.proofs.Spacing.{spread, spread-parts_of, parts_of-spread}

@@ -36,10 +36,12 @@ kind-first kind line left numbers tail behind at en et e shape wrong first place
 
     broken : keeps_rules numbers tail (parts_of left) ≡ false
     broken =
+        let both = and_parts (starts_with nat_eq line l.word) (goes_on_in l (drop (length l.word) line)) shape in
+        let right = keeps_rules l.numbers l.tail (parts_of (drop (length l.word) line)) in
         ap (λ ns. keeps_rules ns tail (parts_of left)) en
         ∙ ap (λ t. keeps_rules l.numbers t (parts_of left)) et
         ∙ ap (λ t. keeps_rules l.numbers l.tail (parts_of t)) e
-        ∙ sym (ap (λ s. s && keeps_rules l.numbers l.tail (parts_of (drop (length l.word) line))) shape)
+        ∙ sym (ap (λ s. s && (goes_on_in l (drop (length l.word) line) && right)) both.0 ∙ ap (λ s. s && right) both.1)
         ∙ wrong
 
 -- one of the kinds, where none before it is the line's
