@@ -3,3 +3,4 @@ pub mod Numbers
 pub mod Shapes
 pub mod Fronts
 pub mod Spelling
+pub mod Reading
