@@ -1,5 +1,5 @@
 -- What stands in a line of some kinds is what stands behind the word of its kind.
-use Rattle.std.proofs.Common.{Option, Some, None, ◌≡◌, ℕ, Bool, true, false, cond, ◌&&◌, ◌||◌, nat_eq, List, [], ◌∷◌, ◌++◌, length, take, drop, refl, sym, ap, ◌∙◌, subst}
+use Rattle.std.proofs.Common.{Option, Some, None, is_some, ◌≡◌, ℕ, Bool, true, false, cond, ◌&&◌, ◌||◌, nat_eq, List, [], ◌∷◌, ◌++◌, length, take, drop, refl, sym, ap, ◌∙◌, subst}
 use Rattle.std.proofs.lemmas.Bool.{and_parts, and_from, false≢true}
 use Rattle.std.proofs.lemmas.Bool.Decides.{Decides-eqb}
 use Rattle.std.proofs.lemmas.Slice.Eq.{starts_is}
@@ -12,6 +12,8 @@ use Rattle.wrp_grammar.specs.Parts.{is_spaced, parts_of}
 use Rattle.wrp_grammar.specs.Shapes.{has_parts_shape, goes_on_in}
 use Rattle.wrp_grammar.specs.Numbers.{keeps_rules, is_right_in, is_right_line}
 use Rattle.wrp_grammar.specs.Spelling.{is_right_behind, content_of_parts, content_behind, content_in}
+use Rattle.wrp_grammar.specs.Words.{words_are_apart}
+use Rattle.wrp_grammar.proofs.PlaceLaws.{content-right}
 use Rattle.wrp_proof.specs.Kinds.{is_record_kind, is_end_kind}
 
 -- no word is the beginning of another one's line
@@ -48,32 +50,6 @@ found (kind ∷ kinds) line c h = by (starts_with nat_eq line (layout_of kind).w
     by true e k = record { kind = kind; left = drop (length (layout_of kind).word) line; text = word-cut kind line e; read = k }
     by false e k = let is = found kinds line c k in record { kind = is.kind; left = is.left; text = is.text; read = is.read }
 
--- where nothing is found, the line is right for no kind
-module _ (all : List Kind) (member : Kind → Bool) (line : List ℕ)
-    (behind : (kind : Kind) (left : List ℕ) → member kind ≡ true → content_in all ((layout_of kind).word ++ left) ≡ content_behind kind left)
-    (none : content_in all line ≡ None) where
-  one-wrong : (kind : Kind) → member kind ≡ true → (b : Bool) → is_right_in kind line ≡ b → b ≡ false
-  one-wrong kind m false e = refl
-  one-wrong kind m true e =
-      let left = drop (length (layout_of kind).word) line in
-      let shape = and_parts (starts_with nat_eq line (layout_of kind).word && goes_on_in (layout_of kind) left) (keeps_rules (layout_of kind).numbers (layout_of kind).tail (parts_of left)) e in
-      let begins = and_parts (starts_with nat_eq line (layout_of kind).word) (goes_on_in (layout_of kind) left) shape.0 in
-      let right : is_right_behind kind left ≡ true = and_from (goes_on_in (layout_of kind) left) (keeps_rules (layout_of kind).numbers (layout_of kind).tail (parts_of left)) begins.1 shape.1 in
-      let some : None ≡ Some (content_of_parts kind (parts_of left)) =
-      sym none ∙ ap (content_in all) (word-cut kind line begins.0) ∙ behind kind left m ∙ ap (λ b. cond b (Some (content_of_parts kind (parts_of left))) None) right in
-      absurd (no (content_of_parts kind (parts_of left)) some)
-    where
-      no : (c : Content) → None ≡ Some c → ⊥
-      no c e = cc
-
-  all-wrong : (kinds : List Kind) → list_all member kinds ≡ true → is_right_line kinds line ≡ false
-  all-wrong [] h = refl
-  all-wrong (kind ∷ kinds) h =
-      let both = and_parts (member kind) (list_all member kinds) h in
-      ap (λ b. b || is_right_line kinds line) (one-wrong kind both.0 (is_right_in kind line) refl) ∙ all-wrong kinds both.1
-
-pub no-record : (line : List ℕ) → content_in record_kinds line ≡ None → is_right_line record_kinds line ≡ false
-no-record line none = all-wrong record_kinds is_record_kind line record-behind none record_kinds refl
-
-pub no-end : (line : List ℕ) → content_in end_kinds line ≡ None → is_right_line end_kinds line ≡ false
-no-end line none = all-wrong end_kinds is_end_kind line end-behind none end_kinds refl
+-- where nothing is found, the line isn't right
+pub nothing-right : (kinds : List Kind) → words_are_apart kinds ≡ true → (line : List ℕ) → content_in kinds line ≡ None → is_right_line kinds line ≡ false
+nothing-right kinds apart line none = sym (content-right kinds apart line) ∙ ap is_some none

@@ -115,3 +115,21 @@ pub end_line-spelled : (line : List ℕ) (end : End) → IsEndLineOf end line �
 unfolding spelled_end
 end_line-spelled line end h =
     ap end_of_content (line-content end_kinds is_end_kind end-behind (content_of_end end) line (end-kind end) h.numbers h.text) ∙ end-with end
+
+-- ---- what a reader has
+
+pub spelled-of : (line : List ℕ) (c : Content) (item : Record) → content_in record_kinds line ≡ Some c → content_of item ≡ c → spelled line ≡ Some item
+unfolding spelled
+spelled-of line c item h e = ap record_of_content (h ∙ ap (λ x. Some x) (sym e)) ∙ record-with item
+
+pub spelled_end-of : (line : List ℕ) (c : Content) (end : End) → content_in end_kinds line ≡ Some c → content_of_end end ≡ c → spelled_end line ≡ Some end
+unfolding spelled_end
+spelled_end-of line c end h e = ap end_of_content (h ∙ ap (λ x. Some x) (sym e)) ∙ end-with end
+
+pub not-spelled : (line : List ℕ) → content_in record_kinds line ≡ None → spelled line ≡ None
+unfolding spelled
+not-spelled line h = ap record_of_content h
+
+pub no-end_spelled : (line : List ℕ) → content_in end_kinds line ≡ None → spelled_end line ≡ None
+unfolding spelled_end
+no-end_spelled line h = ap end_of_content h

@@ -8,13 +8,15 @@ mod kinds;
 mod laws;
 mod owned;
 mod reading;
+mod records;
 mod views;
 
 pub use end::{is_later_end, read_end};
 pub use fault::LineFault;
 pub use laws::{end_laws, line_laws};
-pub use owned::{read_record, to_record};
+pub use owned::read_record;
 pub use reading::{is_later, view};
+pub use records::to_record;
 pub use views::{View, ViewFault};
 pub use wrp_grammar::{NumbersOf, PairsOf, StepsOf};
 pub use wrp_rules::{End, Record, Rule};
