@@ -1,21 +1,22 @@
 -- The first number that breaks a rule, found part by part.
-use Rattle.std.proofs.lemmas.Slice.Eq.{bytes_eq-Decides}
-use Rattle.std.proofs.lemmas.List.Folds.{list_all-append}
-use Rattle.std.specs.Char.{is_ascii_digit}
-use Rattle.wrp_grammar.specs.declared.ranges.Range.{Range}
-use Rattle.wrp_grammar.specs.declared.ranges.Range.TheVariants.{Count, Index, FromOne}
-use Rattle.wrp_rules.specs.Rules.{is_count, is_index, is_from_one}
-use Rattle.wrp_grammar.specs.Shapes.{is_slash}
-use Rattle.std.proofs.Common.{not, slice_index, ◌==◌, arith, codes, ◌≡◌, ℕ, ◌+◌, ◌-◌, Bool, true, false, cond, ◌&&◌, ◌||◌, nat_le, nat_lt, List, [], ◌∷◌, ◌++◌, length, refl, sym, ap, ◌∙◌, append_assoc}
+use Rattle.std.proofs.Common.{arith, codes, ◌≡◌, ℕ, ◌+◌, ◌-◌, Bool, true, false, cond, ◌&&◌, ◌||◌, ◌==◌, not, nat_le, nat_lt, slice_index, List, [], ◌∷◌, ◌++◌, length, refl, sym, ap, ◌∙◌, subst, append_assoc}
 use Rattle.std.proofs.Math.Bool.{and-false}
-use Rattle.std.proofs.lemmas.Bool.{and_from}
+use Rattle.std.proofs.lemmas.Bool.{and_from, false≢true}
 use Rattle.std.proofs.lemmas.List.{append-nil, length-append}
+use Rattle.std.proofs.lemmas.List.Folds.{list_all-append}
+use Rattle.std.proofs.lemmas.Slice.Eq.{bytes_eq-Decides}
+use Rattle.std.specs.Char.{is_ascii_digit}
 use Rattle.std.specs.List.{list_all}
-use Rattle.wrp_grammar.specs.Numbers.{keeps_then, is_in_range, IsFirstBad}
+use Rattle.wrp_rules.specs.declared.layout.Range.{Range}
+use Rattle.wrp_rules.specs.declared.layout.Tail.{Tail}
+use Rattle.wrp_rules.specs.declared.layout.Tail.TheVariants.{Nothing, Steps, Set, Indexes, Multipliers, Pairs, Labels}
 use Rattle.wrp_rules.specs.Lines.{spaced}
+use Rattle.wrp_rules.specs.Ranges.{is_index, is_in_range}
+use Rattle.wrp_grammar.specs.Numbers.{is_range_part, is_right_part, keeps_rules, IsFirstBad, IsPlaceOfBad}
 use Rattle.wrp_grammar.specs.Parts.{parts_of, first_half, second_half, is_number, is_index_part, number_of, sign_of, is_sign, is_step, street_part}
-use Rattle.wrp_grammar.proofs.PartFronts.{sign-more}
+use Rattle.wrp_grammar.specs.Shapes.{is_slash}
 use Rattle.wrp_grammar.proofs.LabelLists.{spread-append}
+use Rattle.wrp_grammar.proofs.PartFronts.{sign-more}
 use Rattle.wrp_grammar.proofs.Spacing.{spread}
 
 -- the parts before what is left keep the rules, and those that are left have this rule
@@ -52,33 +53,6 @@ pub keeps-bad_one : (whole rule : List (List ℕ) → Bool) (line left part othe
 keeps-bad_one whole rule line left part others at h e none bad other where_at =
     keeps-bad whole rule line left part others 0 at h e none bad (sym (ap (λ b. cond b (length part - length (second_half part)) 0) other)) (omega (arith, where_at))
 
--- a number in its range
-pub then-good : (is_right : List ℕ → Bool) (rule : List (List ℕ) → Bool) (left number others : List ℕ) (at place : ℕ) → parts_of left ≡ number ∷ parts_of others → is_right number ≡ true → IsFirstBad rule others at → place ≡ 1 + length number + at → IsFirstBad (keeps_then is_right rule) left place
-then-good is_right rule left number others at place e right h size = record {
-  before = number ∷ h.before;
-  part = h.part;
-  after = h.after;
-  parts = e ∙ ap (λ ps. number ∷ ps) h.parts;
-  good = and_from (is_right number) (rule h.before) right h.good;
-  bad = λ more. ap (λ r. r && rule (h.before ++ h.part ∷ more)) right ∙ h.bad more;
-  place = omega (arith, size, h.place, length-append number (spaced [] h.before), ap (λ r. cond (r && rule (h.before ++ (first_half h.part ++ codes ":1") ∷ [])) (length h.part - length (second_half h.part)) 0) right);
-}
-
-pub then-rest : (is_right : List ℕ → Bool) (rule : List (List ℕ) → Bool) (left number others : List ℕ) → parts_of left ≡ number ∷ parts_of others → is_right number ≡ true → keeps_then is_right rule (parts_of left) ≡ false → rule (parts_of others) ≡ false
-then-rest is_right rule left number others e right h = sym (ap (λ r. r && rule (parts_of others)) right) ∙ sym (ap (keeps_then is_right rule) e) ∙ h
-
--- a number out of its range
-pub then-bad : (is_right : List ℕ → Bool) (rule : List (List ℕ) → Bool) (left number others : List ℕ) → parts_of left ≡ number ∷ parts_of others → is_right number ≡ false → is_right (first_half number ++ codes ":1") ≡ false → IsFirstBad (keeps_then is_right rule) left 1
-then-bad is_right rule left number others e wrong other = record {
-  before = [];
-  part = number;
-  after = parts_of others;
-  parts = e;
-  good = refl;
-  bad = λ more. ap (λ r. r && rule more) wrong;
-  place = sym (ap (λ r. 0 + 1 + cond (r && rule []) (length number - length (second_half number)) 0) other);
-}
-
 -- rules that are the same
 pub first-same : (whole other : List (List ℕ) → Bool) (line : List ℕ) (at : ℕ) → ((ps : List (List ℕ)) → whole ps ≡ other ps) → IsFirstBad whole line at → IsFirstBad other line at
 first-same whole other line at same h = record {
@@ -102,12 +76,7 @@ colon-number xs = go (nat_lt 0 (length (xs ++ codes ":1"))) (list_all is_ascii_d
     go true b e = ap (λ d. d && (nat_le (length (xs ++ codes ":1")) 1 || not (slice_index (xs ++ codes ":1") 0 == 48))) e
     go false b e = refl
 
-pub colon-right : (range : Range) (xs : List ℕ) → is_in_range range (xs ++ codes ":1") ≡ false
-colon-right Count xs = ap (λ d. d && is_count (number_of (xs ++ codes ":1"))) (colon-number xs)
-colon-right Index xs = ap (λ d. d && is_index (number_of (xs ++ codes ":1"))) (colon-number xs)
-colon-right (FromOne most) xs = ap (λ d. d && is_from_one most (number_of (xs ++ codes ":1"))) (colon-number xs)
-
-pub colon-label : (xs : List ℕ) → (is_slash (xs ++ codes ":1") || is_index_part (xs ++ codes ":1")) ≡ false
+colon-label : (xs : List ℕ) → (is_slash (xs ++ codes ":1") || is_index_part (xs ++ codes ":1")) ≡ false
 colon-label xs = ap (λ d. is_slash (xs ++ codes ":1") || (d && is_index (number_of (xs ++ codes ":1")))) (colon-number xs) ∙ slash (is_slash (xs ++ codes ":1")) refl
   where
     slash : (b : Bool) → is_slash (xs ++ codes ":1") ≡ b → (b || false) ≡ false
@@ -122,5 +91,49 @@ sign-end [] = refl
 sign-end (b ∷ []) = sign-more b 58 (49 ∷ []) ∙ sign-end []
 sign-end (b ∷ c ∷ xs) = sign-more b c (xs ++ codes ":1") ∙ sign-end (c ∷ xs)
 
-pub colon-step : (xs : List ℕ) → is_step (xs ++ codes ":1") ≡ false
+colon-step : (xs : List ℕ) → is_step (xs ++ codes ":1") ≡ false
 colon-step xs = ap (λ s. is_sign s && (is_number (street_part (xs ++ codes ":1")) && is_index (number_of (street_part (xs ++ codes ":1"))))) (sign-end xs)
+
+pub colon-part : (tail : Tail) (xs : List ℕ) → is_right_part tail (xs ++ codes ":1") ≡ false
+colon-part Steps xs = colon-step xs
+colon-part Labels xs = colon-label xs
+colon-part Nothing xs = colon-index xs
+colon-part Set xs = colon-index xs
+colon-part Indexes xs = colon-index xs
+colon-part (Multipliers most) xs = colon-index xs
+colon-part (Pairs most) xs = colon-index xs
+
+-- ---- a leading number
+
+pub number-none : (numbers ranges : List Range) (range : Range) (tail : Tail) (left : List ℕ) → numbers ≡ range ∷ ranges → left ≡ [] → IsPlaceOfBad (keeps_rules numbers tail) left 0
+number-none numbers ranges range tail left e none broken =
+    absurd (false≢true (sym broken ∙ ap (λ ns. keeps_rules ns tail (parts_of left)) e ∙ ap (λ text. keeps_rules (range ∷ ranges) tail (parts_of text)) none))
+
+-- in its range
+pub number-good : (numbers ranges : List Range) (range : Range) (tail : Tail) (left number others : List ℕ) (at place : ℕ) → numbers ≡ range ∷ ranges → parts_of left ≡ number ∷ parts_of others → is_range_part range number ≡ true
+    → IsPlaceOfBad (keeps_rules ranges tail) others at → place ≡ 1 + length number + at → IsPlaceOfBad (keeps_rules numbers tail) left place
+number-good numbers ranges range tail left number others at place same e right first size broken =
+    subst (λ ns. IsFirstBad (keeps_rules ns tail) left place) (sym same) (record {
+      before = number ∷ h.before;
+      part = h.part;
+      after = h.after;
+      parts = e ∙ ap (λ ps. number ∷ ps) h.parts;
+      good = and_from (is_range_part range number) (keeps_rules ranges tail h.before) right h.good;
+      bad = λ more. ap (λ r. r && keeps_rules ranges tail (h.before ++ h.part ∷ more)) right ∙ h.bad more;
+      place = omega (arith, size, h.place, length-append number (spaced [] h.before), ap (λ r. cond (r && keeps_rules ranges tail (h.before ++ (first_half h.part ++ codes ":1") ∷ [])) (length h.part - length (second_half h.part)) 0) right);
+    })
+  where
+    h : IsFirstBad (keeps_rules ranges tail) others at
+    h = first (sym (ap (λ r. r && keeps_rules ranges tail (parts_of others)) right) ∙ sym (ap (keeps_rules (range ∷ ranges) tail) e) ∙ sym (ap (λ ns. keeps_rules ns tail (parts_of left)) same) ∙ broken)
+
+-- out of its range
+pub number-bad : (numbers ranges : List Range) (range : Range) (tail : Tail) (left number others : List ℕ) → numbers ≡ range ∷ ranges → parts_of left ≡ number ∷ parts_of others → is_range_part range number ≡ false → IsFirstBad (keeps_rules numbers tail) left 1
+number-bad numbers ranges range tail left number others same e wrong = subst (λ ns. IsFirstBad (keeps_rules ns tail) left 1) (sym same) (record {
+  before = [];
+  part = number;
+  after = parts_of others;
+  parts = e;
+  good = refl;
+  bad = λ more. ap (λ r. r && keeps_rules ranges tail more) wrong;
+  place = sym (ap (λ d. 0 + 1 + cond ((d && is_in_range range (number_of (first_half number ++ codes ":1"))) && keeps_rules ranges tail []) (length number - length (second_half number)) 0) (colon-number (first_half number)));
+})

@@ -5,10 +5,9 @@ use Rattle.std.proofs.lemmas.Slice.Eq.{bytes_eq-Decides}
 use Rattle.std.proofs.lemmas.List.Sums.{split_at_first, passes_at_first}
 use Rattle.std.proofs.lemmas.List.{take_at, drop_at, length-append}
 use Rattle.std.proofs.lemmas.List.Folds.{list_all-append}
-use Rattle.std.specs.List.{list_all, list_any, position_or_len, slice_split, onto_first}
+use Rattle.std.specs.List.{list_all, list_any, before_first, after_first, position_or_len, slice_split, onto_first}
 use Rattle.wrp_grammar.specs.Parts.{is_space, is_spaced, parts_of, is_index_part}
 use Rattle.wrp_grammar.specs.Shapes.{is_slash}
-use Rattle.wrp_grammar.specs.Spelling.{label_parts, street_parts}
 use Rattle.wrp_grammar.proofs.Spacing.{is_solid, spread, spread-parts_of, parts_of-spread}
 
 -- the first slash stands behind parts that are none
@@ -22,10 +21,10 @@ slash_place (x ∷ xs) ys y none here =
     neither true b h = cc
     neither false b h = (refl, h)
 
-pub before-slash : (xs ys : List (List ℕ)) (y : List ℕ) → list_any is_slash xs ≡ false → is_slash y ≡ true → label_parts (xs ++ y ∷ ys) ≡ xs
+pub before-slash : (xs ys : List (List ℕ)) (y : List ℕ) → list_any is_slash xs ≡ false → is_slash y ≡ true → before_first is_slash (xs ++ y ∷ ys) ≡ xs
 before-slash xs ys y none here = ap (λ n. take n (xs ++ y ∷ ys)) (slash_place xs ys y none here) ∙ take_at xs (y ∷ ys) (length xs) refl
 
-pub after-slash : (xs ys : List (List ℕ)) (y : List ℕ) → list_any is_slash xs ≡ false → is_slash y ≡ true → street_parts (xs ++ y ∷ ys) ≡ ys
+pub after-slash : (xs ys : List (List ℕ)) (y : List ℕ) → list_any is_slash xs ≡ false → is_slash y ≡ true → after_first is_slash (xs ++ y ∷ ys) ≡ ys
 after-slash xs ys y none here =
     ap (λ n. drop (n + 1) (xs ++ y ∷ ys)) (slash_place xs ys y none here)
     ∙ ap (drop (length xs + 1)) (sym (append_assoc xs (y ∷ []) ys))
@@ -103,16 +102,16 @@ any-there (x ∷ xs) ys y here = rw (any-there xs ys y here) (any_or (is_slash x
 -- where a slash is next, the halves are found
 pub record AreHalves (line left others : List ℕ) : Type 0 where
   pub some : list_any is_slash (parts_of line) ≡ true
-  pub labels : parts_of (take (length line - length left) line) ≡ label_parts (parts_of line)
-  pub streets : parts_of others ≡ street_parts (parts_of line)
+  pub labels : parts_of (take (length line - length left) line) ≡ before_first is_slash (parts_of line)
+  pub streets : parts_of others ≡ after_first is_slash (parts_of line)
 
 pub halves-found : (line left others part : List ℕ) → IsBeforeSlash line left → parts_of left ≡ part ∷ parts_of others → is_slash part ≡ true → AreHalves line left others
 halves-found line left others part h e here =
     let parts : parts_of line ≡ h.before ++ part ∷ parts_of others = h.parts ∙ ap (λ rest. h.before ++ rest) e in
     record {
       some = ap (list_any is_slash) parts ∙ any-there h.before (parts_of others) part here;
-      labels = front-parts line left h ∙ sym (ap label_parts parts ∙ before-slash h.before (parts_of others) part h.none here);
-      streets = sym (ap street_parts parts ∙ after-slash h.before (parts_of others) part h.none here);
+      labels = front-parts line left h ∙ sym (ap (before_first is_slash) parts ∙ before-slash h.before (parts_of others) part h.none here);
+      streets = sym (ap (after_first is_slash) parts ∙ after-slash h.before (parts_of others) part h.none here);
     }
 
 -- where nothing is left, no part is a slash
@@ -138,25 +137,26 @@ any-place (x ∷ xs) h = go (is_slash x) (position_or_len is_slash xs) h (any-pl
     go true n h f = omega arith
     go false n h f = omega (arith, f h)
 
+-- a slash is one byte
+pub is_the_slash : (part : List ℕ) → is_slash part ≡ true → part ≡ codes "/"
+is_the_slash part e = (bytes_eq-Decides part (codes "/")).0 e
+
 -- parts with a slash among them are what stands before it, the slash, and what stands after it
-pub label-whole : (parts : List (List ℕ)) → list_any is_slash parts ≡ true → parts ≡ label_parts parts ++ codes "/" ∷ street_parts parts
+pub label-whole : (parts : List (List ℕ)) → list_any is_slash parts ≡ true → parts ≡ before_first is_slash parts ++ codes "/" ∷ after_first is_slash parts
 label-whole parts h =
     let lt = any-place parts h in
     split_at_first is_slash parts [] lt
-    ∙ ap (λ slash. label_parts parts ++ slash ∷ street_parts parts) (named (get_or parts (position_or_len is_slash parts) []) (passes_at_first is_slash parts [] lt))
-  where
-    named : (part : List ℕ) → is_slash part ≡ true → part ≡ codes "/"
-    named part e = (bytes_eq-Decides part (codes "/")).0 e
+    ∙ ap (λ slash. before_first is_slash parts ++ slash ∷ after_first is_slash parts) (is_the_slash (get_or parts (position_or_len is_slash parts) []) (passes_at_first is_slash parts [] lt))
 
 -- no number is a slash
+pub no_slash : (part : List ℕ) → is_index_part part ≡ true → is_slash part ≡ false
+no_slash part h = elim (cases_Bool (is_slash part)) [
+  | inl here ↦ absurd (false≢true (ap is_index_part (sym (is_the_slash part here)) ∙ h))
+  | inr other ↦ other
+]
+
 pub no-slash-among : (parts : List (List ℕ)) → list_all is_index_part parts ≡ true → list_any is_slash parts ≡ false
 no-slash-among [] h = refl
 no-slash-among (part ∷ parts) h =
     let both = and_parts (is_index_part part) (list_all is_index_part parts) h in
     rw (no_slash part both.0, no-slash-among parts both.1) refl
-  where
-    no_slash : (part : List ℕ) → is_index_part part ≡ true → is_slash part ≡ false
-    no_slash part h = elim (cases_Bool (is_slash part)) [
-      | inl here ↦ absurd (false≢true (ap is_index_part (sym ((bytes_eq-Decides part (codes "/")).0 here)) ∙ h))
-      | inr other ↦ other
-    ]

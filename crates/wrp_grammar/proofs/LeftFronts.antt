@@ -1,21 +1,20 @@
--- The longest front of what is left of a line: numbers, and what follows them.
-use Rattle.std.proofs.Common.{arith, codes, ◌≡◌, ℕ, ◌+◌, ◌-◌, ◌≤◌, Bool, true, false, cond, ◌&&◌, List, [], ◌∷◌, length, refl, sym, ap, ◌∙◌, subst, inl, inr, not, ◌==◌, ◌||◌}
+-- The longest front of what is left of a line: leading numbers, and what follows them.
+use Rattle.std.proofs.Common.{arith, codes, ◌≡◌, ℕ, ◌+◌, ◌-◌, ◌≤◌, Bool, true, false, cond, ◌&&◌, List, [], ◌∷◌, length, refl, sym, ap, ◌∙◌, subst, inl, inr, ◌||◌}
 use Rattle.std.proofs.lemmas.Bool.{and_parts, and_from, cases_Bool, eqb-true}
-use Rattle.std.proofs.lemmas.Bool.Decides.{nat_tests}
 use Rattle.std.proofs.lemmas.List.{length-append}
 use Rattle.std.proofs.lemmas.List.Splits.{slice_split-cons_yes, slice_split-cons_no}
 use Rattle.std.proofs.lemmas.Slice.Eq.{bytes_eq-Decides}
-use Rattle.std.specs.Char.{is_ascii_digit}
 use Rattle.std.specs.List.{list_all, slice_split, onto_first}
-use Rattle.wrp_grammar.specs.declared.place.Tail.{Tail}
-use Rattle.wrp_grammar.specs.declared.place.Tail.TheVariants.{Steps, Pairs, Numbers, Labels, Nothing}
+use Rattle.wrp_rules.specs.declared.layout.Range.{Range}
+use Rattle.wrp_rules.specs.declared.layout.Tail.{Tail}
+use Rattle.wrp_rules.specs.declared.layout.Tail.TheVariants.{Nothing, Steps, Set, Indexes, Multipliers, Pairs, Labels}
 use Rattle.wrp_grammar.specs.Fronts.{IsLongestFront, is_left}
-use Rattle.wrp_grammar.specs.Parts.{is_space, is_spaced, parts_of, is_digits, is_sign, is_step_shape, is_pair_shape}
-use Rattle.wrp_grammar.specs.Shapes.{is_slash, is_label, is_nothing, has_labels_shape, has_tail_shape, number_then}
+use Rattle.wrp_grammar.specs.Parts.{is_space, is_spaced, parts_of, is_digits}
+use Rattle.wrp_grammar.specs.Shapes.{is_slash, is_label, is_nothing, has_labels_shape, is_part_of, has_tail_shape, has_parts_shape}
 use Rattle.wrp_grammar.proofs.Fronts.{front-at, front-end, front-stop, front-pass, front-break, IsCut, IsFirst}
-use Rattle.wrp_grammar.proofs.PartFronts.{digits_front, digits-front, digits-one, is_step_end, is_step_text, step-same}
-use Rattle.wrp_grammar.proofs.TwoNumbers.{is_two_end, is_two_text, two-same}
-use Rattle.wrp_grammar.proofs.Spacing.{is_solid, spread, parts_of-spread, digits-solid}
+use Rattle.wrp_grammar.proofs.DigitFronts.{digits_part-solid}
+use Rattle.wrp_grammar.proofs.PartFronts.{step-solid, pair-solid}
+use Rattle.wrp_grammar.proofs.Spacing.{is_solid, spread, parts_of-spread}
 
 -- some parts of a shape
 pub record HasParts (shape : List (List ℕ) → Bool) : Type 0 where
@@ -33,42 +32,55 @@ empty-front shape left some e =
     subst (λ text. IsLongestFront (is_left shape) text 0) (sym e)
     (front-end (is_left shape) (spread some.parts) (and_from (is_spaced (spread some.parts)) (shape (parts_of (spread some.parts))) (spread_spaced some.parts) (ap shape (parts_of-spread some.parts some.solid) ∙ some.whole)))
 
-digit_part-solid : (p : List ℕ) → is_digits p ≡ true → is_solid p ≡ true
-digit_part-solid p h = digits-solid p (digits-one p h)
-
--- ---- a number, and what follows it
-
-pub number-parts : (others : List (List ℕ) → Bool) → HasParts others → HasParts (number_then others)
-number-parts others some = record { parts = (48 ∷ []) ∷ some.parts; solid = some.solid; whole = some.whole }
-
-number-first : (others : List (List ℕ) → Bool) → HasParts others → IsFirst (number_then others) is_digits
-number-first others some = record {
-  rest = λ p. some.parts;
-  rest_solid = λ p. some.solid;
-  part = λ p ps h. (and_parts (is_digits p) (others ps) h).0;
-  solid = digit_part-solid;
-  whole = λ p h. and_from (is_digits p) (others some.parts) h some.whole;
-}
-
-pub number-end : (others : List (List ℕ) → Bool) (left : List ℕ) → HasParts others → left ≡ [] → IsLongestFront (is_left (number_then others)) left 0
-number-end others left some e = empty-front (number_then others) left (number-parts others some) e
-
-pub number-break : (others : List (List ℕ) → Bool) (left part rest : List ℕ) (place : ℕ) → HasParts others → IsCut left part rest → is_digits part ≡ false → place ≡ 1 + digits_front part → IsLongestFront (is_left (number_then others)) left place
-number-break others left part rest place some cut broken e =
-    front-break (number_then others) is_digits left part rest (digits_front part) place (number-first others some) cut broken (digits-front part) e
-
-pub number-pass : (others : List (List ℕ) → Bool) (left part rest : List ℕ) (at place : ℕ) → IsCut left part rest → is_digits part ≡ true → IsLongestFront (is_left others) rest at → place ≡ 1 + length part + at → IsLongestFront (is_left (number_then others)) left place
-number-pass others left part rest at place cut here h e =
-    front-pass (number_then others) others left part rest at place cut (λ ps. ap (λ d. d && others ps) here) h e
-
--- ---- what follows the numbers
-
 pub tail-parts : (tail : Tail) → HasParts (has_tail_shape tail)
-tail-parts Steps = record { parts = []; solid = refl; whole = refl }
-tail-parts Pairs = record { parts = []; solid = refl; whole = refl }
-tail-parts Numbers = record { parts = []; solid = refl; whole = refl }
 tail-parts Labels = record { parts = codes "/" ∷ []; solid = refl; whole = refl }
 tail-parts Nothing = record { parts = []; solid = refl; whole = refl }
+tail-parts Steps = record { parts = []; solid = refl; whole = refl }
+tail-parts Set = record { parts = []; solid = refl; whole = refl }
+tail-parts Indexes = record { parts = []; solid = refl; whole = refl }
+tail-parts (Multipliers most) = record { parts = []; solid = refl; whole = refl }
+tail-parts (Pairs most) = record { parts = []; solid = refl; whole = refl }
+
+-- a layout has parts
+pub layout-parts : (numbers : List Range) (tail : Tail) → HasParts (has_parts_shape numbers tail)
+layout-parts [] tail = let some = tail-parts tail in record { parts = some.parts; solid = some.solid; whole = some.whole }
+layout-parts (range ∷ ranges) tail =
+    let some = layout-parts ranges tail in
+    record { parts = (48 ∷ []) ∷ some.parts; solid = some.solid; whole = some.whole }
+
+-- ---- a leading number, and what follows it
+
+pub number-end : (numbers : List Range) (tail : Tail) (left : List ℕ) → left ≡ [] → IsLongestFront (is_left (has_parts_shape numbers tail)) left 0
+number-end numbers tail left e = empty-front (has_parts_shape numbers tail) left (layout-parts numbers tail) e
+
+pub number-break : (numbers ranges : List Range) (range : Range) (tail : Tail) (left part rest : List ℕ) (at place : ℕ) → numbers ≡ range ∷ ranges → IsCut left part rest → is_digits part ≡ false → IsLongestFront is_digits part at
+    → place ≡ 1 + at → IsLongestFront (is_left (has_parts_shape numbers tail)) left place
+number-break numbers ranges range tail left part rest at place e cut broken h size =
+    subst (λ ns. IsLongestFront (is_left (has_parts_shape ns tail)) left place) (sym e)
+    (front-break (has_parts_shape (range ∷ ranges) tail) is_digits left part rest at place first cut broken h size)
+  where
+    first : IsFirst (has_parts_shape (range ∷ ranges) tail) is_digits
+    first =
+        let some = layout-parts ranges tail in
+        record {
+          rest = λ p. some.parts;
+          rest_solid = λ p. some.solid;
+          part = λ p ps h. (and_parts (is_digits p) (has_parts_shape ranges tail ps) h).0;
+          solid = digits_part-solid;
+          whole = λ p h. and_from (is_digits p) (has_parts_shape ranges tail some.parts) h some.whole;
+        }
+
+pub number-pass : (numbers ranges : List Range) (range : Range) (tail : Tail) (left part rest : List ℕ) (at place : ℕ) → numbers ≡ range ∷ ranges → IsCut left part rest → is_digits part ≡ true
+    → IsLongestFront (is_left (has_parts_shape ranges tail)) rest at → place ≡ 1 + length part + at → IsLongestFront (is_left (has_parts_shape numbers tail)) left place
+number-pass numbers ranges range tail left part rest at place e cut here h size =
+    subst (λ ns. IsLongestFront (is_left (has_parts_shape ns tail)) left place) (sym e)
+    (front-pass (has_parts_shape (range ∷ ranges) tail) (has_parts_shape ranges tail) left part rest at place cut (λ ps. ap (λ d. d && has_parts_shape ranges tail ps) here) h size)
+
+-- the parts that are left are in shape where a number is next and its others are in shape
+pub number-shape : (numbers ranges : List Range) (range : Range) (tail : Tail) (part : List ℕ) (parts others : List (List ℕ)) → numbers ≡ range ∷ ranges → parts ≡ part ∷ others → has_parts_shape numbers tail parts ≡ (is_digits part && has_parts_shape ranges tail others)
+number-shape numbers ranges range tail part parts others e cut = ap (λ ns. has_parts_shape ns tail parts) e ∙ ap (has_parts_shape (range ∷ ranges) tail) cut
+
+-- ---- what follows the leading numbers
 
 pub nothing-front : (left : List ℕ) → is_spaced left ≡ true → is_nothing (parts_of left) ≡ false → IsLongestFront (is_left is_nothing) left 0
 nothing-front [] spaced some = cc
@@ -89,72 +101,27 @@ nothing-front (b ∷ t) spaced some =
             onto b [] = refl
             onto b (p ∷ ps) = refl
 
+part-solid : (tail : Tail) (p : List ℕ) → is_part_of tail p ≡ true → is_solid p ≡ true
+part-solid Steps p h = step-solid p h
+part-solid (Multipliers most) p h = pair-solid p h
+part-solid (Pairs most) p h = pair-solid p h
+part-solid Nothing p h = digits_part-solid p h
+part-solid Set p h = digits_part-solid p h
+part-solid Indexes p h = digits_part-solid p h
+part-solid Labels p h = digits_part-solid p h
+
 -- parts that are each in a shape
-list-first : (is_part : List ℕ → Bool) → ((p : List ℕ) → is_part p ≡ true → is_solid p ≡ true) → IsFirst (list_all is_part) is_part
-list-first is_part solid = record {
-  rest = λ p. [];
-  rest_solid = λ p. refl;
-  part = λ p ps h. (and_parts (is_part p) (list_all is_part ps) h).0;
-  solid = solid;
-  whole = λ p h. and_from (is_part p) true h refl;
-}
-
-pub numbers-break : (left part others : List ℕ) (place : ℕ) → IsCut left part others → is_digits part ≡ false → place ≡ 1 + digits_front part → IsLongestFront (is_left (list_all is_digits)) left place
-numbers-break left part others place cut broken e =
-    front-break (list_all is_digits) is_digits left part others (digits_front part) place (list-first is_digits digit_part-solid) cut broken (digits-front part) e
-
-digit_solid : (b : ℕ) → is_ascii_digit b ≡ true → not (b == 32) ≡ true
-digit_solid b h = grind (arith, nat_tests)
-
-sign-solid : (b : ℕ) → is_sign b ≡ true → is_solid (b ∷ []) ≡ true
-sign-solid b h = ap (λ x. x && true) (apart b h)
+pub list-break : (tail : Tail) (left part others : List ℕ) (at place : ℕ) → IsCut left part others → is_part_of tail part ≡ false → IsLongestFront (is_part_of tail) part at → place ≡ 1 + at → IsLongestFront (is_left (list_all (is_part_of tail))) left place
+list-break tail left part others at place cut broken h e = front-break (list_all (is_part_of tail)) (is_part_of tail) left part others at place first cut broken h e
   where
-    apart : (b : ℕ) → is_sign b ≡ true → not (b == 32) ≡ true
-    apart b h = grind (arith, nat_tests)
-
-step_end-solid : (t : List ℕ) → is_step_end t ≡ true → is_solid t ≡ true
-step_end-solid [] h = refl
-step_end-solid (b ∷ []) h = sign-solid b h
-step_end-solid (b ∷ c ∷ t) h =
-    let both = and_parts (is_ascii_digit b) (is_step_end (c ∷ t)) h in
-    and_from _ (is_solid (c ∷ t)) (digit_solid b both.0) (step_end-solid (c ∷ t) both.1)
-
-step-solid : (t : List ℕ) → is_step_shape t ≡ true → is_solid t ≡ true
-step-solid t h = text t (step-same t ∙ h)
-  where
-    text : (t : List ℕ) → is_step_text t ≡ true → is_solid t ≡ true
-    text [] h = refl
-    text (b ∷ t) h =
-        let both = and_parts (is_ascii_digit b) (is_step_end t) h in
-        and_from (not (b == 32)) (is_solid t) (digit_solid b both.0) (step_end-solid t both.1)
-
-pub steps-break : (left part others : List ℕ) (at place : ℕ) → IsCut left part others → is_step_shape part ≡ false → IsLongestFront is_step_shape part at → place ≡ 1 + at → IsLongestFront (is_left (list_all is_step_shape)) left place
-steps-break left part others at place cut broken h e =
-    front-break (list_all is_step_shape) is_step_shape left part others at place (list-first is_step_shape step-solid) cut broken h e
-
-pair_end-solid : (t : List ℕ) → is_two_end 58 t ≡ true → is_solid t ≡ true
-pair_end-solid [] h = refl
-pair_end-solid (b ∷ t) h = elim (cases_Bool (is_ascii_digit b)) [
-  | inl here ↦ and_from (not (b == 32)) (is_solid t) (digit_solid b here) (pair_end-solid t (sym (ap (λ d. cond d (is_two_end 58 t) ((b == 58) && is_digits t)) here) ∙ h))
-  | inr other ↦ let both = and_parts (b == 58) (is_digits t) (sym (ap (λ d. cond d (is_two_end 58 t) ((b == 58) && is_digits t)) other) ∙ h) in
-      and_from (not (b == 32)) (is_solid t) (colon_solid b both.0) (digit_part-solid t both.1)
-]
-  where
-    colon_solid : (b : ℕ) → (b == 58) ≡ true → not (b == 32) ≡ true
-    colon_solid b h = grind (arith, nat_tests)
-
-pair-solid : (t : List ℕ) → is_pair_shape t ≡ true → is_solid t ≡ true
-pair-solid t h = text t (two-same 58 refl t ∙ h)
-  where
-    text : (t : List ℕ) → is_two_text 58 t ≡ true → is_solid t ≡ true
-    text [] h = refl
-    text (b ∷ t) h =
-        let both = and_parts (is_ascii_digit b) (is_two_end 58 t) h in
-        and_from (not (b == 32)) (is_solid t) (digit_solid b both.0) (pair_end-solid t both.1)
-
-pub pairs-break : (left part others : List ℕ) (at place : ℕ) → IsCut left part others → is_pair_shape part ≡ false → IsLongestFront is_pair_shape part at → place ≡ 1 + at → IsLongestFront (is_left (list_all is_pair_shape)) left place
-pairs-break left part others at place cut broken h e =
-    front-break (list_all is_pair_shape) is_pair_shape left part others at place (list-first is_pair_shape pair-solid) cut broken h e
+    first : IsFirst (list_all (is_part_of tail)) (is_part_of tail)
+    first = record {
+      rest = λ p. [];
+      rest_solid = λ p. refl;
+      part = λ p ps h. (and_parts (is_part_of tail p) (list_all (is_part_of tail) ps) h).0;
+      solid = part-solid tail;
+      whole = λ p h. and_from (is_part_of tail p) true h refl;
+    }
 
 -- labels, a slash, and streets
 -- what may follow a label or a slash
@@ -182,7 +149,7 @@ labels-first = record {
     solid : (p : List ℕ) → is_label p ≡ true → is_solid p ≡ true
     solid p h = elim (cases_Bool (is_slash p)) [
       | inl here ↦ ap is_solid ((bytes_eq-Decides p (codes "/")).0 here)
-      | inr other ↦ digit_part-solid p (sym (ap (λ s. s || is_digits p) other) ∙ h)
+      | inr other ↦ digits_part-solid p (sym (ap (λ s. s || is_digits p) other) ∙ h)
     ]
 
     whole : (p : List ℕ) → is_label p ≡ true → has_labels_shape (p ∷ label_rest p) ≡ true

@@ -1,42 +1,14 @@
 -- Lists of pairs, and the parts that spell them.
-use Rattle.std.proofs.Common.{arith, false, Some, None, ◌≡◌, ℕ, ◌+◌, ◌-◌, ◌<◌, ◌≤◌, ◌^◌, Bool, true, cond, ◌&&◌, not, ◌==◌, nat_lt, nat_le, List, [], ◌∷◌, map, length, refl, sym, ap, ◌∙◌}
+use Rattle.std.proofs.Common.{arith, false, Some, None, ◌≡◌, ℕ, ◌+◌, ◌-◌, ◌<◌, ◌≤◌, ◌^◌, Bool, true, cond, ◌&&◌, nat_lt, nat_le, List, [], ◌∷◌, map, length, refl, sym, ap, ◌∙◌}
 use Rattle.std.proofs.Math.Bool.{and-true}
 use Rattle.std.proofs.lemmas.Bool.{and_left, and_parts, and_from, ltb-true, leb-true, lt-ltb, le-leb}
 use Rattle.std.proofs.lemmas.List.{length-map}
-use Rattle.std.proofs.lemmas.List.Folds.{list_all-append}
 use Rattle.std.proofs.lemmas.List.Sums.{count_by-le-length}
-use Rattle.std.proofs.lemmas.List.Splits.{join_with_byte-slice_split, length-slice_split}
-use Rattle.std.specs.Fmt.{decimal}
-use Rattle.std.specs.List.{list_all, join_with_byte}
-use Rattle.wrp_rules.specs.Lines.{pair_text}
+use Rattle.std.proofs.lemmas.List.Splits.{length-slice_split}
+use Rattle.std.specs.List.{list_all}
 use Rattle.wrp_grammar.specs.Parts.{parts_of, is_number, number_of, first_half, second_half, is_pair, pair_of, is_space, are_multiplier_parts, are_pair_parts}
-use Rattle.wrp_rules.specs.Rules.{is_index, is_from_one, is_ascending, are_pairs}
+use Rattle.wrp_rules.specs.Ranges.{is_index, is_from_one, is_ascending, are_pairs}
 use Rattle.wrp_grammar.proofs.Guards.{guard-some, guard-none}
-use Rattle.wrp_grammar.proofs.Written.{text-number}
-use Rattle.wrp_grammar.proofs.WrittenPairs.{number_digits, pair-text, text-pair}
-use Rattle.wrp_grammar.proofs.Spacing.{is_solid, digits-solid}
-
--- pairs that are read are written as their parts
-pub pairs-text : (most : ℕ) (parts : List (List ℕ)) → most < 2 ^ 99 → list_all (is_pair most) parts ≡ true → map pair_text (map pair_of parts) ≡ parts
-pairs-text most [] small h = refl
-pairs-text most (part ∷ parts) small h =
-    let both = and_parts (is_pair most part) (list_all (is_pair most) parts) h in
-    ap (λ first. first ∷ map pair_text (map pair_of parts)) (pair-text most part small both.0) ∙ ap (λ others. part ∷ others) (pairs-text most parts small both.1)
-
--- the same, joined by spaces
-pub pairs-joined : (most : ℕ) (left bytes : List ℕ) (space : ℕ) → most < 2 ^ 99 → list_all (is_pair most) (parts_of left) ≡ true → left ≡ space ∷ bytes → bytes ≡ join_with_byte 32 (map pair_text (map pair_of (parts_of left)))
-pairs-joined most left bytes space small h e =
-    sym (ap (join_with_byte 32) (pairs-text most (parts_of left) small h) ∙ ap (λ xs. join_with_byte 32 (parts_of xs)) e ∙ join_with_byte-slice_split 32 bytes)
-
--- the text of a pair has no space
-pair_text-solid : (most : ℕ) (pair : ℕ × ℕ) → most < 2 ^ 99 → is_index pair.0 ≡ true → is_from_one most pair.1 ≡ true → is_solid (pair_text pair) ≡ true
-pair_text-solid most pair small index range =
-    let low : pair.0 < 2 ^ 32 = ltb-true pair.0 (2 ^ 32) index in
-    let high : pair.1 ≤ most = leb-true pair.1 most (and_parts (nat_le 1 pair.1) (nat_le pair.1 most) range).1 in
-    let one = number_digits (decimal pair.0) (text-number pair.0 (omega arith)).0 in
-    let two = number_digits (decimal pair.1) (text-number pair.1 (omega arith)).0 in
-    list_all-append (λ byte. not (byte == 32)) (decimal pair.0) (58 ∷ decimal pair.1)
-    ∙ and_from (is_solid (decimal pair.0)) (is_solid (58 ∷ decimal pair.1)) (digits-solid (decimal pair.0) one.1) (digits-solid (decimal pair.1) two.1)
 
 -- each of a list is above the numbers below it
 pub raised : (x : ℕ) (ys : List ℕ) → list_all (nat_le (x + 1)) ys ≡ true → list_all (nat_lt x) ys ≡ true
@@ -80,7 +52,7 @@ index-most n h = le-leb n (2 ^ 32 - 1) (omega (arith, ltb-true n (2 ^ 32) h))
 pub index-of_most : (n : ℕ) → nat_le n (2 ^ 32 - 1) ≡ true → is_index n ≡ true
 index-of_most n h = lt-ltb n (2 ^ 32) (omega (arith, leb-true n (2 ^ 32 - 1) h))
 
-first-index : (most : ℕ) (part : List ℕ) → is_pair most part ≡ true → is_index (pair_of part).0 ≡ true
+pub first-index : (most : ℕ) (part : List ℕ) → is_pair most part ≡ true → is_index (pair_of part).0 ≡ true
 first-index most part h = (and_parts (is_number (first_half part)) (is_index (number_of (first_half part)))
     (and_parts (is_number (first_half part) && is_index (number_of (first_half part))) (is_number (second_half part) && is_from_one most (number_of (second_half part))) h).0).1
 
@@ -212,32 +184,10 @@ go_up-goes most low room next part all parts whole h e some =
           ∙ sym (ap (go_up most low room) e) ∙ h,
     )
 
--- what the parts of pairs are
-pub record ArePairTexts (most : ℕ) (pairs : List (ℕ × ℕ)) : Type 0 where
-  pub solid : list_all is_solid (map pair_text pairs) ≡ true
-  pub each : list_all (is_pair most) (map pair_text pairs) ≡ true
-  pub same : map pair_of (map pair_text pairs) ≡ pairs
-
-text_each : (most : ℕ) (pairs : List (ℕ × ℕ)) → most < 2 ^ 99 → list_all is_index (firsts pairs) ≡ true → list_all (λ q. is_from_one most q.1) pairs ≡ true → ArePairTexts most pairs
-text_each most [] small index range = record { solid = refl; each = refl; same = refl }
-text_each most (pair ∷ pairs) small index range =
-    let indexes = and_parts (is_index pair.0) (list_all is_index (firsts pairs)) index in
-    let ranges = and_parts (is_from_one most pair.1) (list_all (λ q. is_from_one most q.1) pairs) range in
-    let others = text_each most pairs small indexes.1 ranges.1 in
-    let here = text-pair most pair small indexes.0 ranges.0 in
-    record {
-      solid = and_from (is_solid (pair_text pair)) (list_all is_solid (map pair_text pairs)) (pair_text-solid most pair small indexes.0 ranges.0) others.solid;
-      each = and_from (is_pair most (pair_text pair)) (list_all (is_pair most) (map pair_text pairs)) here.0 others.each;
-      same = ap (λ first. first ∷ map pair_of (map pair_text pairs)) here.1 ∙ ap (λ rest. pair ∷ rest) others.same;
-    }
-
+-- ascending numbers are in range
 pub ascending-index : (xs : List ℕ) → is_ascending (2 ^ 32 - 1) xs ≡ true → list_all is_index xs ≡ true
 ascending-index [] h = refl
 ascending-index (x ∷ xs) h =
     let both = and_parts (nat_le x (2 ^ 32 - 1) && list_all (nat_lt x) xs) (is_ascending (2 ^ 32 - 1) xs) h in
     and_from (is_index x) (list_all is_index xs) (index-of_most x (and_parts (nat_le x (2 ^ 32 - 1)) (list_all (nat_lt x) xs) both.0).0) (ascending-index xs both.1)
 
-pub text-pairs : (most : ℕ) (pairs : List (ℕ × ℕ)) → most < 2 ^ 99 → are_pairs most pairs ≡ true → ArePairTexts most pairs
-text-pairs most pairs small h =
-    let up = and_parts (is_ascending (2 ^ 32 - 1) (firsts pairs)) (list_all (λ q. is_from_one most q.1) pairs) h in
-    text_each most pairs small (ascending-index (firsts pairs) up.0) up.1

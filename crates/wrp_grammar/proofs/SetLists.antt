@@ -1,67 +1,10 @@
 -- Lists of numbers and sets, and the parts that spell them.
-use Rattle.std.proofs.Common.{arith, ◌≡◌, ℕ, ◌+◌, ◌-◌, ◌<◌, ◌^◌, Bool, true, ◌&&◌, nat_lt, nat_le, List, [], ◌∷◌, map, refl, sym, ap, ◌∙◌}
-use Rattle.std.proofs.lemmas.Bool.{and_parts, and_from, ltb-true, leb-true}
-use Rattle.std.proofs.lemmas.List.Splits.{join_with_byte-slice_split}
-use Rattle.std.specs.Fmt.{decimal}
-use Rattle.std.specs.List.{list_all, join_with_byte}
-use Rattle.wrp_grammar.specs.Parts.{parts_of, is_number, number_of, numbers_of, is_index_part, are_set_parts}
-use Rattle.wrp_rules.specs.Rules.{is_index, is_set}
-use Rattle.wrp_grammar.proofs.Written.{number-text, text-number}
-use Rattle.wrp_grammar.proofs.WrittenPairs.{number_digits}
-use Rattle.wrp_grammar.proofs.Spacing.{is_solid, digits-solid}
-use Rattle.wrp_grammar.proofs.PairLists.{raised, lowered, above, all_from_zero, index-most, ascending-index, same_tests}
-
--- a part that spells an index is written as that index
-pub index-text : (part : List ℕ) → is_index_part part ≡ true → decimal (number_of part) ≡ part
-index-text part h =
-    let both = and_parts (is_number part) (is_index (number_of part)) h in
-    let small : number_of part < 2 ^ 32 = ltb-true (number_of part) (2 ^ 32) both.1 in
-    number-text part both.0 (omega arith)
-
--- numbers that are read are written as their parts
-pub indexes-text : (parts : List (List ℕ)) → list_all is_index_part parts ≡ true → map decimal (numbers_of parts) ≡ parts
-indexes-text [] h = refl
-indexes-text (part ∷ parts) h =
-    let both = and_parts (is_index_part part) (list_all is_index_part parts) h in
-    ap (λ first. first ∷ map decimal (numbers_of parts)) (index-text part both.0) ∙ ap (λ others. part ∷ others) (indexes-text parts both.1)
-
--- the same, joined by spaces
-pub indexes-joined : (left bytes : List ℕ) (space : ℕ) → list_all is_index_part (parts_of left) ≡ true → left ≡ space ∷ bytes → bytes ≡ join_with_byte 32 (map decimal (numbers_of (parts_of left)))
-indexes-joined left bytes space h e =
-    sym (ap (join_with_byte 32) (indexes-text (parts_of left) h) ∙ ap (λ xs. join_with_byte 32 (parts_of xs)) e ∙ join_with_byte-slice_split 32 bytes)
-
--- they are in range
-pub indexes-ranged : (parts : List (List ℕ)) → list_all is_index_part parts ≡ true → list_all is_index (numbers_of parts) ≡ true
-indexes-ranged [] h = refl
-indexes-ranged (part ∷ parts) h =
-    let both = and_parts (is_index_part part) (list_all is_index_part parts) h in
-    and_from (is_index (number_of part)) (list_all is_index (numbers_of parts)) (and_parts (is_number part) (is_index (number_of part)) both.0).1 (indexes-ranged parts both.1)
-
--- what the parts of numbers are
-pub record AreIndexTexts (numbers : List ℕ) : Type 0 where
-  pub solid : list_all is_solid (map decimal numbers) ≡ true
-  pub read : list_all is_index_part (map decimal numbers) ≡ true
-  pub same : numbers_of (map decimal numbers) ≡ numbers
-
-pub text-indexes : (numbers : List ℕ) → list_all is_index numbers ≡ true → AreIndexTexts numbers
-text-indexes [] h = record { solid = refl; read = refl; same = refl }
-text-indexes (n ∷ numbers) h =
-    let both = and_parts (is_index n) (list_all is_index numbers) h in
-    let others = text-indexes numbers both.1 in
-    let small : n < 2 ^ 32 = ltb-true n (2 ^ 32) both.0 in
-    let number = text-number n (omega arith) in
-    record {
-      solid = and_from (is_solid (decimal n)) (list_all is_solid (map decimal numbers)) (digits-solid (decimal n) (number_digits (decimal n) number.0).1) others.solid;
-      read = and_from (is_index_part (decimal n)) (list_all is_index_part (map decimal numbers))
-          (and_from (is_number (decimal n)) (is_index (number_of (decimal n))) number.0 (ap is_index number.1 ∙ both.0)) others.read;
-      same = ap (λ first. first ∷ numbers_of (map decimal numbers)) number.1 ∙ ap (λ rest. n ∷ rest) others.same;
-    }
-
--- the same for a set
-pub text-set : (numbers : List ℕ) → is_set numbers ≡ true → AreIndexTexts numbers × (are_set_parts (map decimal numbers) ≡ true)
-text-set numbers h =
-    let each = text-indexes numbers (ascending-index numbers h) in
-    (each, and_from (list_all is_index_part (map decimal numbers)) (is_set (numbers_of (map decimal numbers))) each.read (ap is_set each.same ∙ h))
+use Rattle.std.proofs.Common.{◌≡◌, ℕ, ◌+◌, ◌-◌, ◌^◌, Bool, true, ◌&&◌, nat_lt, nat_le, List, [], ◌∷◌, refl}
+use Rattle.std.proofs.lemmas.Bool.{and_parts, and_from, leb-true}
+use Rattle.std.specs.List.{list_all}
+use Rattle.wrp_grammar.specs.Parts.{is_number, number_of, numbers_of, is_index_part, are_set_parts}
+use Rattle.wrp_rules.specs.Ranges.{is_index, is_set}
+use Rattle.wrp_grammar.proofs.PairLists.{raised, lowered, above, all_from_zero, index-most, same_tests}
 
 -- numbers that go up from one that is low or more
 abbrev pub rise : ℕ → List (List ℕ) → Bool

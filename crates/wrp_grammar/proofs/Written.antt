@@ -1,5 +1,5 @@
 -- Numbers, steps and pairs are written in one way: what a part spells is written as the part.
-use Rattle.std.proofs.Common.{inl, inr, ◌≡◌, ℕ, ◌+◌, ◌-◌, ◌%◌, ◌^◌, ◌<◌, Bool, true, false, cond, ◌&&◌, ◌||◌, not, nat_lt, nat_le, ◌==◌, List, [], ◌∷◌, ◌++◌, length, get_or, refl, sym, ap, ◌∙◌, arith, rules, eq-eqb, length-append}
+use Rattle.std.proofs.Common.{codes, subst, inl, inr, ◌≡◌, ℕ, ◌+◌, ◌-◌, ◌%◌, ◌^◌, ◌<◌, Bool, true, false, cond, ◌&&◌, ◌||◌, not, nat_lt, nat_le, ◌==◌, List, [], ◌∷◌, ◌++◌, length, get_or, refl, sym, ap, ◌∙◌, arith, rules, eq-eqb, length-append}
 use Rattle.std.proofs.lemmas.Bool.{and_parts, and_from, or_cases, or_left, or_right, both_ways, ltb-true, lt-ltb, leb-true, le-leb, not-true, not_from_false, ne_eqb, cases_eq}
 use Rattle.std.proofs.lemmas.Bool.Decides.{nat_tests}
 use Rattle.std.proofs.lemmas.Fmt.{decimal_is_IsNumeral_wide, decimal_by_steps_wide, decimal_digit}
@@ -13,7 +13,7 @@ use Rattle.std.specs.Str.Parse.{digits_value}
 use Rattle.wrp_town.specs.declared.street.Step.{Step}
 use Rattle.wrp_rules.specs.Lines.{step_text}
 use Rattle.wrp_grammar.specs.Parts.{is_digits, is_number, number_of, street_part, sign_of, is_sign, is_step, step_of}
-use Rattle.wrp_rules.specs.Rules.{is_index}
+use Rattle.wrp_rules.specs.Ranges.{is_index}
 use Rattle.wrp_grammar.proofs.Digits.{written}
 
 -- digits and their value are those of `decimal`
@@ -66,13 +66,21 @@ ends xs some =
 sign_is : (sign : ℕ) → is_sign sign ≡ true → cond (sign == 45) 45 43 ≡ sign
 sign_is sign h = grind (arith, nat_tests)
 
+-- the text of a step: its street and one byte
+pub step_text-sign : (step : Step) → step_text step ≡ decimal step.street ++ cond step.back 45 43 ∷ []
+step_text-sign step = ap (λ sign. decimal step.street ++ sign) (sign step.back)
+  where
+    sign : (back : Bool) → cond back (codes "-") (codes "+") ≡ cond back 45 43 ∷ []
+    sign true = refl
+    sign false = refl
+
 -- a step that is written right is written as its street and sign
 pub step-text : (part : List ℕ) → is_step part ≡ true → step_text (step_of part) ≡ part
 step-text part h =
     let parts = and_parts (is_sign (sign_of part)) (is_number (street_part part) && is_index (number_of (street_part part))) h in
     let street = and_parts (is_number (street_part part)) (is_index (number_of (street_part part))) parts.1 in
     let small : number_of (street_part part) < 2 ^ 32 = ltb-true (number_of (street_part part)) (2 ^ 32) street.1 in
-    rw (number-text (street_part part) street.0 (omega arith), sign_is (sign_of part) parts.0) (ends part (some part parts.0))
+    step_text-sign (step_of part) ∙ rw (number-text (street_part part) street.0 (omega arith), sign_is (sign_of part) parts.0) (ends part (some part parts.0))
   where
     some : (xs : List ℕ) → is_sign (sign_of xs) ≡ true → 0 < length xs
     some [] h = cc
@@ -81,15 +89,17 @@ step-text part h =
 -- the step of the text of a step
 pub text-step : (step : Step) → is_index step.street ≡ true → (is_step (step_text step) ≡ true) × (step_of (step_text step) ≡ step)
 text-step step h =
-    let sign = cond step.back 45 43 in
+    let sign : ℕ = cond step.back 45 43 in
+    let text : List ℕ = decimal step.street ++ sign ∷ [] in
     let small : step.street < 2 ^ 32 = ltb-true step.street (2 ^ 32) h in
     let parts = ends_with (decimal step.street) sign in
     let number = text-number step.street (omega arith) in
-    let value : number_of (street_part (step_text step)) ≡ step.street = ap number_of parts.0 ∙ number.1 in (
-      and_from (is_sign (sign_of (step_text step))) (is_number (street_part (step_text step)) && is_index (number_of (street_part (step_text step))))
+    let value : number_of (street_part text) ≡ step.street = ap number_of parts.0 ∙ number.1 in
+    subst (λ bytes. (is_step bytes ≡ true) × (step_of bytes ≡ step)) (sym (step_text-sign step)) (
+      and_from (is_sign (sign_of text)) (is_number (street_part text) && is_index (number_of (street_part text)))
           (rw parts.1 (is_sign_of step.back))
-          (and_from (is_number (street_part (step_text step))) (is_index (number_of (street_part (step_text step)))) (rw parts.0 number.0) (rw value h)),
-      same step (step_of (step_text step)) value (ap (λ s. s == 45) parts.1 ∙ back_of step.back),
+          (and_from (is_number (street_part text)) (is_index (number_of (street_part text))) (rw parts.0 number.0) (rw value h)),
+      same step (step_of text) value (ap (λ s. s == 45) parts.1 ∙ back_of step.back),
     )
   where
     is_sign_of : (back : Bool) → is_sign (cond back 45 43) ≡ true

@@ -81,13 +81,9 @@ first_half part = before_first is_colon part
 abbrev pub second_half : List ℕ → List ℕ
 second_half part = after_first is_colon part
 
--- two numbers with this byte between them, each one or more digits
-abbrev pub are_two : ℕ → List ℕ → Bool
-are_two between text = is_digits (before_first (λ byte. byte == between) text) && is_digits (after_first (λ byte. byte == between) text)
-
 -- a pair in its shape, and one that is written right, its second number from 1 to most
 abbrev pub is_pair_shape : List ℕ → Bool
-is_pair_shape part = are_two 58 part
+is_pair_shape part = is_digits (first_half part) && is_digits (second_half part)
 
 abbrev pub is_pair : ℕ → List ℕ → Bool
 is_pair most part =

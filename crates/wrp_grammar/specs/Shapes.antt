@@ -28,14 +28,18 @@ abbrev pub is_nothing : List (List ℕ) → Bool
 is_nothing [] = true
 is_nothing (part ∷ parts) = false
 
+-- one part of what follows the leading numbers
+abbrev pub is_part_of : Tail → List ℕ → Bool
+is_part_of Steps part = is_step_shape part
+is_part_of (Multipliers most) part = is_pair_shape part
+is_part_of (Pairs most) part = is_pair_shape part
+is_part_of tail part = is_digits part
+
 -- what follows the leading numbers
 abbrev pub has_tail_shape : Tail → List (List ℕ) → Bool
 has_tail_shape Nothing parts = is_nothing parts
-has_tail_shape Steps parts = list_all is_step_shape parts
-has_tail_shape (Multipliers most) parts = list_all is_pair_shape parts
-has_tail_shape (Pairs most) parts = list_all is_pair_shape parts
 has_tail_shape Labels parts = has_labels_shape parts
-has_tail_shape tail parts = list_all is_digits parts
+has_tail_shape tail parts = list_all (is_part_of tail) parts
 
 -- a number for each range, and what follows them
 abbrev pub has_parts_shape : List Range → Tail → List (List ℕ) → Bool

@@ -1,19 +1,20 @@
 -- The record and the end that a line spells, where its parts are written right and in their ranges.
-use Rattle.std.specs.Prelude.{◌≡◌, ℕ, ◌&&◌, if◌then◌else◌, List, [], ◌∷◌, map, take, drop, length, Option, None, Some}
-use Rattle.std.specs.List.{before_first, after_first}
+use Rattle.std.specs.Prelude.{ℕ, Bool, true, false, ◌&&◌, if◌then◌else◌, nat_eq, List, [], ◌∷◌, map, take, drop, length, Option, None, Some}
+use Rattle.std.specs.List.{before_first, after_first, starts_with}
 use Rattle.wrp_rules.specs.declared.layout.Kind.{Kind}
 use Rattle.wrp_rules.specs.declared.layout.Kind.TheVariants as kinds
+use Rattle.wrp_rules.specs.declared.layout.Range.{Range}
 use Rattle.wrp_rules.specs.declared.layout.Tail.{Tail}
 use Rattle.wrp_rules.specs.declared.layout.Tail.TheVariants as tails
 use Rattle.wrp_rules.specs.declared.record.Record.{Record}
 use Rattle.wrp_rules.specs.declared.record.Record.TheVariants.{Tour, Conn, Odd, Round, Kc, Bound, Empty, Apart, Point, Blind, Split, Labels}
 use Rattle.wrp_rules.specs.declared.record.End.{End}
 use Rattle.wrp_rules.specs.declared.record.End.TheVariants.{Optimal, Infeasible, Unfinished}
-use Rattle.wrp_rules.specs.Layouts.{Layout, layout_of, record_kinds, end_kinds}
+use Rattle.wrp_rules.specs.Layouts.{layout_of, record_kinds, end_kinds}
 use Rattle.wrp_rules.specs.Contents.{Items, NoItems, Steps, Numbers, Pairs, TwoLists, Content, content}
 use Rattle.wrp_grammar.specs.Parts.{parts_of, numbers_of, step_of, pair_of}
-use Rattle.wrp_grammar.specs.Shapes.{is_slash, is_in_layout}
-use Rattle.wrp_grammar.specs.Numbers.{keeps_rules}
+use Rattle.wrp_grammar.specs.Shapes.{is_slash}
+use Rattle.wrp_grammar.specs.Numbers.{is_range_part, is_right_behind}
 
 -- the items that parts spell
 abbrev pub items_of : Tail → List (List ℕ) → Items
@@ -25,27 +26,28 @@ items_of tails.Labels parts =
     TwoLists (numbers_of (before_first is_slash parts)) (numbers_of (after_first is_slash parts))
 items_of tail parts = Numbers (numbers_of parts)
 
+-- a number for each range, written right and in it
+abbrev pub are_leading : List Range → List (List ℕ) → Bool
+are_leading [] parts = true
+are_leading (range ∷ ranges) [] = false
+are_leading (range ∷ ranges) (part ∷ parts) = is_range_part range part && are_leading ranges parts
+
 -- what stands in the parts of a line of this kind
 abbrev pub content_of_parts : Kind → List (List ℕ) → Content
 content_of_parts kind parts =
     content kind (numbers_of (take (length (layout_of kind).numbers) parts))
     (items_of (layout_of kind).tail (drop (length (layout_of kind).numbers) parts))
 
--- the parts behind the word of a line of this kind
-abbrev pub parts_behind : Kind → List ℕ → List (List ℕ)
-parts_behind kind line = parts_of (drop (length (layout_of kind).word) line)
-
--- the line is in its layout, and its numbers keep the rules
-abbrev pub is_right : Kind → List ℕ → Bool
-is_right kind line =
-    is_in_layout (layout_of kind) line
-    && keeps_rules (layout_of kind).numbers (layout_of kind).tail (parts_behind kind line)
+-- what stands behind the word of a line of this kind
+abbrev pub content_behind : Kind → List ℕ → Option Content
+content_behind kind left = if is_right_behind kind left then Some (content_of_parts kind (parts_of left)) else None
 
 -- what stands in a line of one of these kinds
 abbrev pub content_in : List Kind → List ℕ → Option Content
 content_in [] line = None
 content_in (kind ∷ kinds) line =
-    if is_right kind line then Some (content_of_parts kind (parts_behind kind line)) else content_in kinds line
+    if starts_with nat_eq line (layout_of kind).word then content_behind kind (drop (length (layout_of kind).word) line)
+    else content_in kinds line
 
 -- the record with this content
 abbrev pub record_with : Kind → List ℕ → Items → Option Record

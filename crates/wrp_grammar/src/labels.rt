@@ -1,9 +1,8 @@
-//! The labels and the streets of a line, on both sides of its slash. Nothing here takes memory.
+//! The labels and the streets of a line, on both sides of its slash. 
 ghost use Rattle.std.specs.Prelude.{◌≡◌, is_some, true, IfSome};
-ghost use Rattle.std.specs.List.{list_any};
+ghost use Rattle.std.specs.List.{list_any, before_first, after_first};
 ghost use Rattle.wrp_grammar.specs.Parts.{is_spaced, parts_of};
 ghost use Rattle.wrp_grammar.specs.Shapes.{is_slash};
-ghost use Rattle.wrp_grammar.specs.Spelling.{label_parts, street_parts};
 
 use crate::text::split_part;
 
@@ -11,8 +10,8 @@ use crate::text::split_part;
 pub fn label_halves(line: &[u8]) -> Option<(&[u8], &[u8])>
     requires { is_spaced line.now ≡ true }
     ensures some { is_some result ≡ list_any is_slash (parts_of line.now) }
-    ensures labels { IfSome result (λ x. parts_of x.0.now ≡ label_parts (parts_of line.now)) }
-    ensures streets { IfSome result (λ x. parts_of x.1.now ≡ street_parts (parts_of line.now)) }
+    ensures labels { IfSome result (λ x. parts_of x.0.now ≡ before_first is_slash (parts_of line.now)) }
+    ensures streets { IfSome result (λ x. parts_of x.1.now ≡ after_first is_slash (parts_of line.now)) }
 {
     let mut left = line;
     while let Some((part, others)) = split_part(left) {

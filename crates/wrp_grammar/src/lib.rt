@@ -1,20 +1,20 @@
 //! The parts of a line: numbers, steps, pairs and sets, read without copying, and the places where a line
-//! leaves the shape or the number rules of a record.
+//! leaves the shape or the number rules of its kind. Nothing here takes memory.
 #![tactic(auto)]
 
+mod contents;
+mod faults;
 mod labels;
+mod laws;
 mod numbers;
 mod parts;
 mod place;
 mod ranges;
 mod text;
 
-pub use labels::{is_slash_text, label_halves};
-pub use numbers::{NumbersOf, next_low};
+pub use contents::{ContentOf, ItemsOf, Leading, read_content};
+pub use faults::{form_place, number_place};
+pub use laws::{place_laws, word_laws};
+pub use numbers::NumbersOf;
 pub use parts::{PairsOf, StepsOf};
-pub use place::{Tail, digits_before, form_place, two_numbers};
-pub use ranges::number_place;
-pub use text::{
-    first_part, goes_on_with_space, halves, is_digits_text, is_sign_byte, read_count,
-    read_from_one, read_index, read_pair, read_step, split_part,
-};
+pub use text::goes_on_with_space;

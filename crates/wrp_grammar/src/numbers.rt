@@ -1,6 +1,7 @@
 //! The numbers of a line that are still to be read, lent from the line. Nothing here takes memory.
 ghost use Rattle.std.specs.Prelude.{nat_le, ◌+◌, Some, None, if◌then◌else◌, ◌≡◌, ◌&&◌, ◌∷◌, [], map, IfSome, IfNone};
 ghost use Rattle.std.specs.Fmt.{decimal};
+ghost use Rattle.std.specs.Iterator.{YieldsFirst, item_count};
 ghost use Rattle.std.specs.List.{list_all, join_with_byte};
 ghost use Rattle.wrp_grammar.specs.Parts.{parts_of, is_index_part, number_of, numbers_of, are_set_parts};
 
@@ -55,16 +56,6 @@ impl<'a> NumbersOf<'a> {
         NumbersOf { left: self.left }
     }
 
-    /// Takes the first number. `None` where no number is left.
-    pub fn next(&mut self) -> Option<u32>
-        ensures some { IfSome result (λ number. self.old ≡ number ∷ self.new) }
-        ensures none { IfNone result ((self.old ≡ []) × (self.new ≡ [])) }
-    {
-        let (part, left) = split_part(self.left)?;
-        self.left = left;
-        read_index(part)
-    }
-
     /// The bytes of the numbers that are left, with no space before the first.
     pub fn text(&self) -> &[u8]
         ensures { result.now ≡ join_with_byte 32 (map decimal self.now) }
@@ -73,6 +64,22 @@ impl<'a> NumbersOf<'a> {
             Some((_, text)) => text,
             None => self.left,
         }
+    }
+}
+
+impl<'a> Iterator for NumbersOf<'a> {
+    type Item = u32;
+
+    ghost next_gives = { YieldsFirst (λ s. s) };
+
+    ghost remaining = { item_count (λ s. s) };
+
+    /// Takes the first number.
+    fn next(&mut self) -> Option<u32>
+    {
+        let (part, left) = split_part(self.left)?;
+        self.left = left;
+        read_index(part)
     }
 }
 

@@ -1,6 +1,7 @@
 //! The parts of a line that are still to be read: steps or pairs, lent from the line.
 //! Nothing here takes memory.
 ghost use Rattle.std.specs.Prelude.{nat_lt, nat_le, length, ◌+◌, Some, None, if◌then◌else◌, ◌≡◌, ◌<◌, ◌≤◌, ◌^◌, ◌&&◌, ◌∷◌, [], map, true, is_some, IfSome, IfNone};
+ghost use Rattle.std.specs.Iterator.{YieldsFirst, item_count};
 ghost use Rattle.std.specs.List.{list_all, join_with_byte};
 ghost use Rattle.wrp_rules.specs.Lines.{step_text, pair_text};
 ghost use Rattle.wrp_grammar.specs.Parts.{parts_of, is_step, step_of, is_pair, pair_of, are_multiplier_parts, are_pair_parts};
@@ -13,7 +14,7 @@ use wrp_town::Step;
 const MOST_SECOND: u128 = 1 << 72;
 
 /// A record has at most as many multipliers.
-const MOST_MULTIPLIERS: usize = 4096;
+pub const MOST_MULTIPLIERS: usize = 4096;
 
 /// The steps that are left of a line. Contracts see the list of the steps.
 #[derive(Debug, Drop)]
@@ -37,8 +38,7 @@ impl<'a> Model for StepsOf<'a> {
 impl<'a> StepsOf<'a> {
     /// The steps of parts, where each of them is a step that is written right.
     pub fn new(left: &'a [u8]) -> Option<StepsOf<'a>>
-        ensures some { is_some result ≡ list_all is_step (parts_of left.now) }
-        ensures steps { IfSome result (λ s. s ≡ map step_of (parts_of left.now)) }
+        ensures { result ≡ (if list_all is_step (parts_of left.now) then Some (map step_of (parts_of left.now)) else None) }
     {
         if are_steps(left) {
             Some(StepsOf { left })
@@ -54,16 +54,6 @@ impl<'a> StepsOf<'a> {
         StepsOf { left: self.left }
     }
 
-    /// Takes the first step. `None` where no step is left.
-    pub fn next(&mut self) -> Option<Step>
-        ensures some { IfSome result (λ step. self.old ≡ step ∷ self.new) }
-        ensures none { IfNone result ((self.old ≡ []) × (self.new ≡ [])) }
-    {
-        let (part, left) = split_part(self.left)?;
-        self.left = left;
-        read_step(part)
-    }
-
     /// The bytes of the steps that are left, with no space before the first.
     pub fn text(&self) -> &[u8]
         ensures { result.now ≡ join_with_byte 32 (map step_text self.now) }
@@ -72,6 +62,22 @@ impl<'a> StepsOf<'a> {
             Some((_, text)) => text,
             None => self.left,
         }
+    }
+}
+
+impl<'a> Iterator for StepsOf<'a> {
+    type Item = Step;
+
+    ghost next_gives = { YieldsFirst (λ s. s) };
+
+    ghost remaining = { item_count (λ s. s) };
+
+    /// Takes the first step.
+    fn next(&mut self) -> Option<Step>
+    {
+        let (part, left) = split_part(self.left)?;
+        self.left = left;
+        read_step(part)
     }
 }
 
@@ -109,12 +115,13 @@ impl<'a> PairsOf<'a> {
     }
 
     /// The pairs of parts, where they are written right: ascending first numbers, and second numbers from
-    /// 1 to 2^72.
+    /// 1 to `most`.
     #[tactic(auto, using(crate::proofs::PairLists::few_pairs))]
-    pub fn pairs(left: &'a [u8]) -> Option<PairsOf<'a>>
-        ensures { result ≡ (if are_pair_parts (2 ^ 72) (parts_of left.now) then Some (map pair_of (parts_of left.now)) else None) }
+    pub fn pairs(left: &'a [u8], most: u128) -> Option<PairsOf<'a>>
+        requires { most ≤ 2 ^ 72 }
+        ensures { result ≡ (if are_pair_parts most (parts_of left.now) then Some (map pair_of (parts_of left.now)) else None) }
     {
-        if are_pairs_text(left, MOST_SECOND, left.len()) {
+        if are_pairs_text(left, most, left.len()) {
             Some(PairsOf { left })
         } else {
             None
@@ -128,16 +135,6 @@ impl<'a> PairsOf<'a> {
         PairsOf { left: self.left }
     }
 
-    /// Takes the first pair. `None` where no pair is left.
-    pub fn next(&mut self) -> Option<(u32, u128)>
-        ensures some { IfSome result (λ pair. self.old ≡ pair ∷ self.new) }
-        ensures none { IfNone result ((self.old ≡ []) × (self.new ≡ [])) }
-    {
-        let (part, left) = split_part(self.left)?;
-        self.left = left;
-        read_pair(part, MOST_SECOND)
-    }
-
     /// The bytes of the pairs that are left, with no space before the first.
     pub fn text(&self) -> &[u8]
         ensures { result.now ≡ join_with_byte 32 (map pair_text self.now) }
@@ -146,6 +143,22 @@ impl<'a> PairsOf<'a> {
             Some((_, text)) => text,
             None => self.left,
         }
+    }
+}
+
+impl<'a> Iterator for PairsOf<'a> {
+    type Item = (u32, u128);
+
+    ghost next_gives = { YieldsFirst (λ s. s) };
+
+    ghost remaining = { item_count (λ s. s) };
+
+    /// Takes the first pair.
+    fn next(&mut self) -> Option<(u32, u128)>
+    {
+        let (part, left) = split_part(self.left)?;
+        self.left = left;
+        read_pair(part, MOST_SECOND)
     }
 }
 

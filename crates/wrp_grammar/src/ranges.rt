@@ -1,117 +1,36 @@
-//! Where a line of a record breaks a rule of numbers. Nothing here takes memory.
-ghost use Rattle.std.specs.Prelude.{◌≡◌, ◌<◌, ◌≤◌, ◌+◌, ◌-◌, ◌^◌, if◌then◌else◌, true, false, length, IfOk, IfErr};
+//! Where what is left of a line behind its word breaks a rule of numbers.
+ghost use Rattle.std.specs.Prelude.{◌≡◌, ◌<◌, ◌≤◌, ◌+◌, ◌^◌, true, false, length, IfOk, IfErr};
 ghost use Rattle.std.specs.List.{list_all};
-ghost use Rattle.wrp_grammar.specs.Parts.{parts_of, first_half, second_half, number_of, is_step, are_set_parts};
-ghost use Rattle.wrp_grammar.specs.Numbers.{keeps_then, is_in_range, others_keep_rules, are_labels, are_few_pairs, is_next_first, is_next_pair, keeps_rules, IsPlaceOfBad};
+ghost use Rattle.wrp_grammar.specs.Parts.{first_half, number_of, are_set_parts};
+ghost use Rattle.wrp_grammar.specs.Numbers.{is_range_part, is_right_part, tail_keeps_rules, keeps_rules, are_few_pairs, is_next_pair, place_in_pair, HasLimit, IsPlaceOfBad};
 
 use crate::labels::is_slash_text;
 use crate::numbers::next_low;
+use crate::parts::MOST_MULTIPLIERS;
 use crate::text::{halves, read_count, read_from_one, read_index, read_step, split_part};
+use wrp_rules::{Range, Tail};
 
-/// The range of one of the first numbers of a record's line.
-#[derive(Clone, Copy, Debug, PartialEq, Eq)]
-enum Range {
-    /// Below 2^63.
-    Count,
-    /// Below 2^32.
-    Index,
-    /// From 1 to `most`.
-    FromOne { most: u64 },
-}
-
-/// What follows the first numbers of a record's line, with the rules of its numbers.
-#[derive(Clone, Copy, Debug, PartialEq, Eq)]
-enum Others {
-    /// Steps of a tour.
-    Steps,
-    /// At most 4,096 pairs, their second numbers from 1 to 2^40.
-    RoundMultipliers,
-    /// At most 4,096 pairs, their second numbers from 1 to 2^60.
-    Multipliers,
-    /// Pairs, their second numbers from 1 to 2^72.
-    Pairs,
-    /// Ascending numbers.
-    Set,
-    /// Numbers, perhaps with a slash among them.
-    Indexes,
-}
-
-/// The place of the first number that breaks a rule, where the line has this letter and goes on with
-/// `left`.
-pub fn number_place(letter: u8, left: &[u8]) -> usize
+/// The place of the first number that breaks a rule, among leading numbers and what follows them.
+pub fn parts_number(left: &[u8], numbers: &[Range], tail: Tail) -> usize
+    requires { HasLimit tail }
     ensures within { result ≤ length left.now }
-    ensures first { IsPlaceOfBad (keeps_rules letter) left.now result }
+    ensures first { IsPlaceOfBad (keeps_rules numbers.now tail) left.now result }
 {
-    let count = Range::Count;
-    let index = Range::Index;
-    let divisor = Range::FromOne { most: 1 << 20 };
-    let bound_den = Range::FromOne { most: 1 << 40 };
-    let point_den = Range::FromOne { most: 1 << 60 };
-    match letter {
-        b't' => after_one(left, count, Others::Steps),
-        b'c' => after_two(left, index, index, Others::Set),
-        b'o' => others_number(left, Others::Set),
-        b'r' => after_one(left, divisor, Others::RoundMultipliers),
-        b'k' => after_one(left, index, Others::Indexes),
-        b'b' => after_two(left, count, bound_den, Others::Multipliers),
-        b'e' => after_one(left, count, Others::Multipliers),
-        b'a' => after_three(left, count, index, index, Others::Set),
-        b'p' => after_two(left, count, point_den, Others::Pairs),
-        b'z' => after_one(left, count, Others::Indexes),
-        b's' => after_three(left, count, index, index, Others::Indexes),
-        _ => others_number(left, Others::Indexes),
-    }
-}
-
-/// The place of the first number that breaks a rule, among three numbers and others.
-fn after_three(left: &[u8], one: Range, two: Range, three: Range, others: Others) -> usize
-    ensures within { result ≤ length left.now }
-    ensures first { IsPlaceOfBad
-        (keeps_then (is_in_range one) (keeps_then (is_in_range two) (keeps_then (is_in_range three) (others_keep_rules others))))
-        left.now result }
-{
-    let Some((number, behind)) = split_part(left) else {
+    let Some((range, ranges)) = numbers.split_first() else {
+        return tail_number(left, tail);
+    };
+    let Some((number, others)) = split_part(left) else {
         return 0;
     };
-    if !is_within(number, one) {
+    if !is_within(number, *range) {
         return 1;
     }
-    1 + number.len() + after_two(behind, two, three, others)
-}
-
-/// The place of the first number that breaks a rule, among two numbers and others.
-fn after_two(left: &[u8], one: Range, two: Range, others: Others) -> usize
-    ensures within { result ≤ length left.now }
-    ensures first { IsPlaceOfBad
-        (keeps_then (is_in_range one) (keeps_then (is_in_range two) (others_keep_rules others)))
-        left.now result }
-{
-    let Some((number, behind)) = split_part(left) else {
-        return 0;
-    };
-    if !is_within(number, one) {
-        return 1;
-    }
-    1 + number.len() + after_one(behind, two, others)
-}
-
-/// The place of the first number that breaks a rule, among a number and others.
-fn after_one(left: &[u8], one: Range, others: Others) -> usize
-    ensures within { result ≤ length left.now }
-    ensures first { IsPlaceOfBad (keeps_then (is_in_range one) (others_keep_rules others)) left.now result }
-{
-    let Some((number, behind)) = split_part(left) else {
-        return 0;
-    };
-    if !is_within(number, one) {
-        return 1;
-    }
-    1 + number.len() + others_number(behind, others)
+    1 + number.len() + parts_number(others, ranges, tail)
 }
 
 /// Whether a part is a number in this range.
 fn is_within(part: &[u8], range: Range) -> bool
-    ensures { result ≡ is_in_range range part.now }
+    ensures { result ≡ is_range_part range part.now }
 {
     match range {
         Range::Count => read_count(part).is_some(),
@@ -120,34 +39,45 @@ fn is_within(part: &[u8], range: Range) -> bool
     }
 }
 
-/// The place of the first number that breaks a rule, among what follows the first numbers.
-fn others_number(left: &[u8], others: Others) -> usize
+/// The place of the first number that breaks a rule, among what follows the leading numbers.
+fn tail_number(left: &[u8], tail: Tail) -> usize
+    requires { HasLimit tail }
     ensures within { result ≤ length left.now }
-    ensures first { IsPlaceOfBad (others_keep_rules others) left.now result }
+    ensures first { IsPlaceOfBad (tail_keeps_rules tail) left.now result }
 {
-    match others {
-        Others::Steps => steps_number(left),
-        Others::RoundMultipliers => pairs_number(left, 1 << 40, 4096),
-        Others::Multipliers => pairs_number(left, 1 << 60, 4096),
-        Others::Pairs => pairs_number(left, 1 << 72, left.len()),
-        Others::Set => set_number(left),
-        Others::Indexes => indexes_number(left),
+    match tail {
+        Tail::Nothing => 0,
+        Tail::Set => set_number(left),
+        Tail::Multipliers { most } => pairs_number(left, u128::from(most), MOST_MULTIPLIERS),
+        Tail::Pairs { most } => pairs_number(left, most, left.len()),
+        Tail::Steps | Tail::Indexes | Tail::Labels => list_number(left, tail),
     }
 }
 
-/// The place of the first number that breaks a rule, among numbers and perhaps a slash.
-fn indexes_number(line: &[u8]) -> usize
+/// The place of the first number that breaks a rule, among parts that keep the rules each alone.
+fn list_number(line: &[u8], tail: Tail) -> usize
     ensures within { result ≤ length line.now }
-    ensures first { IsPlaceOfBad are_labels line.now result }
+    ensures first { IsPlaceOfBad (list_all (is_right_part tail)) line.now result }
 {
     let mut left = line;
     while let Some((part, others)) = split_part(left) {
-        if !is_slash_text(part) && read_index(part).is_none() {
+        if !is_right(part, tail) {
             return line.len() - left.len() + 1;
         }
         left = others;
     }
     line.len()
+}
+
+/// Whether a part keeps the rules alone.
+fn is_right(part: &[u8], tail: Tail) -> bool
+    ensures { result ≡ is_right_part tail part.now }
+{
+    match tail {
+        Tail::Steps => read_step(part).is_some(),
+        Tail::Labels => is_slash_text(part) || read_index(part).is_some(),
+        _ => read_index(part).is_some(),
+    }
 }
 
 /// The place of the first number that breaks a rule, among ascending numbers.
@@ -167,22 +97,7 @@ fn set_number(line: &[u8]) -> usize
     line.len()
 }
 
-/// The place of the first number of steps that breaks a rule.
-fn steps_number(line: &[u8]) -> usize
-    ensures within { result ≤ length line.now }
-    ensures first { IsPlaceOfBad (list_all is_step) line.now result }
-{
-    let mut left = line;
-    while let Some((part, others)) = split_part(left) {
-        if read_step(part).is_none() {
-            return line.len() - left.len() + 1;
-        }
-        left = others;
-    }
-    line.len()
-}
-
-/// The place of the first number that breaks a rule, among pairs of which there may be as many as `room`.
+/// The place of the first number that breaks a rule, among at most `room` pairs.
 fn pairs_number(line: &[u8], most: u128, room: usize) -> usize
     requires { most < 2 ^ 99 }
     ensures within { result ≤ length line.now }
@@ -202,13 +117,14 @@ fn pairs_number(line: &[u8], most: u128, room: usize) -> usize
     line.len()
 }
 
-/// The least first number of the next pair, or the place of this pair's first number that breaks a rule.
+/// The least first number of the next pair, or the place of this pair's number that breaks a rule.
 fn pair_number(part: &[u8], most: u128, low: u64, room: usize) -> Result<u64, usize>
     requires { most < 2 ^ 99 }
     ensures within { IfErr result (λ at. at ≤ length part.now) }
-    ensures next { IfOk result (λ next. (is_next_pair most low room part.now ≡ true) × (next ≡ number_of (first_half part.now) + 1)) }
+    ensures good { IfOk result (λ next. is_next_pair most low room part.now ≡ true) }
+    ensures next { IfOk result (λ next. next ≡ number_of (first_half part.now) + 1) }
     ensures bad { IfErr result (λ at. is_next_pair most low room part.now ≡ false) }
-    ensures place { IfErr result (λ at. at ≡ (if is_next_first low room part.now then length part.now - length (second_half part.now) else 0)) }
+    ensures place { IfErr result (λ at. at ≡ place_in_pair low room part.now) }
 {
     let (first, second) = halves(part);
     if room == 0 {

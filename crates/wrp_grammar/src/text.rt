@@ -2,7 +2,7 @@
 ghost use Rattle.std.specs.Prelude.{◌≡◌, ◌<◌, ◌≤◌, ◌+◌, ◌^◌, nat_lt, ◌==◌, true, ◌&&◌, ◌∷◌, ◌++◌, [], length, nat_le, IfSome, IfNone, Some, None, if◌then◌else◌};
 ghost use Rattle.std.specs.List.{position_or_len, slice_split, list_all};
 ghost use Rattle.std.specs.Char.{is_ascii_digit};
-ghost use Rattle.wrp_rules.specs.Rules.{is_index, is_count, is_from_one};
+ghost use Rattle.wrp_rules.specs.Ranges.{is_index, is_count, is_from_one};
 ghost use Rattle.wrp_grammar.specs.Parts.{parts_of, is_space, is_spaced, is_digits, is_number, number_of, is_sign, is_step, step_of, first_half, second_half, is_pair, pair_of};
 
 use wrp_town::Step;

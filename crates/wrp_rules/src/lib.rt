@@ -5,7 +5,9 @@
 mod layout;
 mod record;
 mod rule;
+mod table;
 
 pub use layout::{Kind, Range, Tail};
 pub use record::{End, Record};
 pub use rule::Rule;
+pub use table::{LONGEST_LINE, Layout, MOST_MULTIPLIERS, layout_of};

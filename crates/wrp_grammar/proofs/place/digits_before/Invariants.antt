@@ -3,4 +3,4 @@ use Rattle.std.specs.Char.{is_ascii_digit}
 use Rattle.wrp_grammar.proofs.place.digits_before.Given as goal
 
 abbrev pub invariant-loop-place : goal.invariant-loop-place
-invariant-loop-place l = (k : ℕ) → k < l.place → is_ascii_digit (get_or l.part k 0) ≡ true
+invariant-loop-place l = (k : ℕ) → k < l.place → is_ascii_digit (get_or l.text k 0) ≡ true

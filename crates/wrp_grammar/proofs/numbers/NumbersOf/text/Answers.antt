@@ -1,5 +1,5 @@
-use Rattle.wrp_grammar.proofs.SetLists.{indexes-joined}
+use Rattle.wrp_grammar.proofs.ItemTexts.{indexes-parts, joined}
 use Rattle.wrp_grammar.proofs.numbers.NumbersOf.text.Goals as goal
 
 pub returns-in-Some : goal.returns-in-Some
-returns-in-Some c = rw (← c.self.view_is) (indexes-joined c.self.inside.left.now c.in-Some.text.now c.in-Some.field-0-0.now c.self.invariant c.in-Some.ensures.cases.0)
+returns-in-Some c = rw (← c.self.view_is) (joined _ _ _ _ _ indexes-parts c.self.inside.left.now c.in-Some.text.now c.in-Some.field-0-0.now c.self.invariant c.in-Some.ensures.cases.0)

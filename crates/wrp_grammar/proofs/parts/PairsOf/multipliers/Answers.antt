@@ -2,7 +2,7 @@ use Rattle.std.proofs.Common.{sym, ◌∙◌, ◌^◌, map}
 use Rattle.std.specs.List.{list_all}
 use Rattle.std.proofs.lemmas.Bool.{and_parts}
 use Rattle.wrp_grammar.specs.Parts.{parts_of, is_pair, pair_of}
-use Rattle.wrp_rules.specs.Rules.{are_multipliers}
+use Rattle.wrp_rules.specs.Ranges.{are_multipliers}
 use Rattle.wrp_grammar.proofs.PairLists.{few_multipliers, all-widened}
 use Rattle.wrp_grammar.proofs.parts.PairsOf.multipliers.Goals as goal
 

@@ -1,0 +1,14 @@
+//! Proofs as texts: the lines of records and of ends, their lengths, and which records may be written.
+#![tactic(auto)]
+
+mod content;
+mod lengths;
+mod limits;
+mod part;
+mod parts;
+mod whole;
+mod writing;
+
+pub use limits::writable;
+pub use whole::proof_text;
+pub use writing::{write_end, write_record};
