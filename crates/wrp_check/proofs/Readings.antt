@@ -1,15 +1,15 @@
 -- Steps of a reader, over the input as it is handed out.
-use Rattle.std.proofs.Common.{◌≡◌, ◌≢◌, ℕ, ◌+◌, ◌<◌, ◌≤◌, ◌⊎◌, ◌∙◌, ◌==◌, not, min, true, List, [], ◌∷◌, ◌++◌, length, take, drop, Option, None, Some, IfSome, IsErrOf, Err, Bool, false, IsTrue, refl, sym, ap, arith, inl, inr, append_assoc}
+use Rattle.std.proofs.Common.{◌≡◌, ◌≢◌, ℕ, ◌+◌, ◌<◌, ◌≤◌, ◌∙◌, ◌==◌, not, true, List, [], ◌∷◌, ◌++◌, length, take, drop, Option, None, Some, IfSome, IsErrOf, Err, Bool, false, IsTrue, refl, ap, arith, inl, inr, append_assoc}
 use Rattle.std.specs.Option.{option_map}
 use Rattle.std.proofs.lemmas.Bool.{cases_lt}
 use Rattle.std.proofs.lemmas.List.{drop_all, length-append, append-nil}
 use Rattle.std.proofs.lemmas.List.Folds.{length-prefix_len, list_all-append}
 use Rattle.std.proofs.lemmas.List.Sums.{prefix_len-le-length}
-use Rattle.wrp_out.specs.Outside.{Input, Tells, Took}
+use Rattle.wrp_out.specs.Outside.{Input, Took}
 use Rattle.wrp_out.proofs.CountFacts.{never_falls_same}
 use Rattle.wrp_out.proofs.OutsideFacts.{took_then}
 use Rattle.wrp_check.specs.declared.lines.LinesFault.{LinesFault}
-use Rattle.wrp_check.specs.Streams.{Buffered, PassesLimit, PieceTooLong, ahead, is_one_line, line_len, most_bytes}
+use Rattle.wrp_check.specs.Streams.{Buffered, PassesLimit, PieceTooLong, ahead, is_one_line, line_len}
 use Rattle.wrp_check.proofs.FirstLines.{prefix_len_behind, prefix_len-le-append, front_passes, first_line_fed, first_line_whole}
 
 -- where bytes are told, these stand before the others
