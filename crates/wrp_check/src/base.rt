@@ -128,10 +128,7 @@ fn push_service(
     ensures { OnOk result (rows.new.items ≡ rows.old.items ++ sparse_service town.now demand.now ∷ []) }
 {
     let terms = service_terms(alloc, town, demand)?;
-    rows.push(SparseRow {
-        terms,
-        right_side: 1,
-    })?;
+    rows.push(SparseRow { terms, right_side: 1 })?;
     Ok(())
 }
 

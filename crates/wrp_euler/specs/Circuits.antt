@@ -52,8 +52,8 @@ pub record IsUnbalanced (town : Town) (counts : List ℕ) (junction : ℕ) : Typ
   pub differs : (leaving town counts junction ≡ entering town counts junction) → ⊥
   pub least : (j : ℕ) → j < junction → leaving town counts j ≡ entering town counts j
 
--- every junction is balanced, and the second arc is the least one outside the piece of the first, which
--- is the least of all that are traversed
+-- every junction is balanced, and the second arc is the least one outside the piece of the first,
+-- which is the least of all that are traversed
 pub record AreApart (town : Town) (counts : List ℕ) (first other : ℕ) : Type 0 where
   pub balanced : AreBalanced town counts
   pub first_used : is_used counts first ≡ true

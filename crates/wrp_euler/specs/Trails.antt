@@ -74,8 +74,8 @@ abbrev pub Turns : Town → Trail → Trail → Bool → Type 0
 Turns town old new went =
     cond went (GoesOn town old new ⊎ GoesBack town old new) (IsOver town old new)
 
--- what a trail has at its end: the steps, from the last to the first, are a walk from the base back to
--- it, these and what is left are the counts, and no arc is left at a junction of the walk
+-- what a trail has at its end: the steps, from the last to the first, are a walk from the base back
+-- to it, these and what is left are the counts, and no arc is left at a junction of the walk
 pub record IsPiece (town : Town) (counts : List ℕ) (base : ℕ) (left : List ℕ) (done : List Step)
     : Type 0 where
   pub sized : length left ≡ 2 * length town.streets

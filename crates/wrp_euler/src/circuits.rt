@@ -37,12 +37,14 @@ impl From<AllocError> for CircuitFault {
     }
 }
 
-/// A closed walk that traverses each arc as often as its count says: no steps where all counts are 0.
+/// A closed walk that traverses each arc as often as its count says: no steps where all counts are
+/// 0.
 ///
 /// # Errors
 ///
 /// `Unbalanced` where traversals do not leave a junction as often as they enter it, `Apart` where
-/// they do and the arcs that are traversed are not one piece. There is no circuit then (`circuit_laws`).
+/// they do and the arcs that are traversed are not one piece. By `circuit_laws` there is no circuit
+/// then.
 pub fn circuit(alloc: Global, graph: &Graph, counts: &[u32]) -> Result<List<Step>, CircuitFault>
     requires counts { AreCounts graph.now counts.now }
     requires sum { sum counts.now ≤ 2 ^ 25 }

@@ -31,8 +31,8 @@ pub fn arcs_sum_as_steps()
         → sum_of_uses town steps f ≡ sum_over (λ step. f (arc_of step)) steps }
 {}
 
-/// A balance row sums to what leaves its junction less what enters it: to 0 exactly where the counts
-/// are balanced there.
+/// A balance row sums to what leaves its junction less what enters it: to 0 exactly where the
+/// counts are balanced there.
 pub fn balance_rows_compare_stars()
     ensures difference { (town : Town) (counts : List ℕ) (junction : ℕ)
         → sum_of_counts town (slice_index counts) (balance_row town junction).coef
@@ -48,7 +48,8 @@ pub fn tours_meet_the_base_rows()
     ensures meets { (town : Town) (steps : List Step) (i : ℕ) → is_tour town steps ≡ true
         → MeetsRow town steps (row_at (base_rows town) i) }
     ensures balances { (town : Town) (junction : ℕ) (steps : List Step)
-        → is_closed_walk town steps ≡ true → sum_of_uses town steps (balance_row town junction).coef ≡ pos 0 }
+        → is_closed_walk town steps ≡ true
+        → sum_of_uses town steps (balance_row town junction).coef ≡ pos 0 }
     ensures costs { (town : Town) (steps : List Step) → is_closed_walk town steps ≡ true
         → sum_of_uses town steps (λ arc. pos (cost_or_zero town arc)) ≡ pos (walk_cost town steps) }
 {}
@@ -63,8 +64,8 @@ pub fn bounds_hold()
         → bound_value town (base_rows town) node den mult ≤ℤ pos (walk_cost town steps) }
 {}
 
-/// The end that agrees with a valid list of judged records holds: a list with the end `optimal` gives
-/// the least cost, and one with the end `unfinished` bounds it. So do proofs of such lists.
+/// The end that agrees with a valid list of judged records holds: a list with the end `optimal`
+/// gives the least cost, and one with the end `unfinished` bounds it. So do proofs of such lists.
 pub fn judged_ends_hold()
     ensures lists { (town : Town) (records : List Record) (end : End)
         → is_valid town records ≡ true → are_judged town records ≡ true
@@ -80,6 +81,6 @@ pub fn judged_optima_are_least()
         → is_valid town records ≡ true → are_judged town records ≡ true
         → agrees (standing town records) (Optimal cost) ≡ true → IsLeastCost town cost }
     ensures proofs { (town : Town) (version : Version) (records : List Record) (cost : ℕ)
-        (bytes : List ℕ) → IsProofBy town version records (Optimal cost) bytes → are_judged town records ≡ true
-        → IsLeastCost town cost }
+        (bytes : List ℕ) → IsProofBy town version records (Optimal cost) bytes
+        → are_judged town records ≡ true → IsLeastCost town cost }
 {}

@@ -20,12 +20,13 @@ ends_required town j =
 abbrev pub part_at : List (Option ℕ) → ℕ → Option ℕ
 part_at of j = slice_index_or of j None
 
--- a part for each junction where a required street ends, the same exactly where required streets join
--- two junctions
+-- a part for each junction where a required street ends, the same exactly where required streets
+-- join two junctions
 pub record AreParts (town : Town) (count : ℕ) (of : List (Option ℕ)) : Type 0 where
   pub each : length of ≡ length town.junctions
   pub ended : (j : ℕ) → j < length town.junctions → is_some (part_at of j) ≡ ends_required town j
   pub same : (i j part : ℕ) → i < length town.junctions → j < length town.junctions
-      → part_at of i ≡ Some part → (part_at of j ≡ Some part) ↔ Joined town (is_of_required town) i j
+      → part_at of i ≡ Some part
+      → (part_at of j ≡ Some part) ↔ Joined town (is_of_required town) i j
   -- as the junctions come, each part is one that was there before or the next, from 0 to the last
   pub in_order : come_in_order count 0 (flat_map option_to_list of) ≡ true

@@ -41,7 +41,8 @@ pub record IsFresh (rows : List (List ℕ)) (root : ℕ) (of : List (Option ℕ)
   pub fresh : part_at of root ≡ None
 
 -- the next part is that of a junction, and of all that it reaches
-pub record IsSpread (rows : List (List ℕ)) (root part : ℕ) (old new : List (Option ℕ)) : Type 0 where
+pub record IsSpread (rows : List (List ℕ)) (root part : ℕ) (old new : List (Option ℕ))
+    : Type 0 where
   pub parts : HaveParts rows (part + 1) new
   pub kept : Kept old new
   pub begun : part_at new root ≡ Some part

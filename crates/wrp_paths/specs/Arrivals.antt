@@ -35,7 +35,8 @@ entry_at table j = slice_index_or table j None
 abbrev pub steps_to : Table → ℕ → ℕ → List Step
 steps_to table zero j = []
 steps_to table (suc hops) j =
-    option_map_or (λ walk. steps_to table hops walk.before ++ step_along walk.arc ∷ []) (entry_at table j) []
+    option_map_or (λ walk. steps_to table hops walk.before ++ step_along walk.arc ∷ [])
+    (entry_at table j) []
 
 -- the cost and the steps of the walk to a junction
 abbrev pub way_at : Table → ℕ → Option (ℕ × List Step)
