@@ -1,8 +1,8 @@
 -- Laws of tables of walks: of an entry that is added, and of the walk that is read back.
-use Rattle.std.proofs.Common.{◌≡◌, ℕ, zero, suc, ◌+◌, ◌*◌, ◌/◌, ◌%◌, ◌<◌, ◌≤◌, Bool, true, false, not, cond, leb, ◌==◌, List, [], ◌∷◌, ◌++◌, reverse, append_assoc, length, set, Option, Some, None, is_some, refl, sym, ap, ◌∙◌, ◌⊎◌, inl, inr, arith, get_or-set_same, get_or-set_other}
+use Rattle.std.proofs.Common.{◌≡◌, ℕ, zero, suc, ◌+◌, ◌<◌, ◌≤◌, true, false, not, cond, leb, List, [], ◌∷◌, ◌++◌, reverse, append_assoc, length, set, Option, Some, None, is_some, refl, sym, ap, ◌∙◌, ◌⊎◌, inl, inr, arith, get_or-set_same, get_or-set_other}
 use Rattle.std.specs.Option.{option_map, option_map_or}
-use Rattle.std.proofs.lemmas.Bool.{false≢true, cases_lt, leb-true, le-leb, cases_eq, eqb-true, eqb-false}
-use Rattle.std.proofs.lemmas.List.{get_or_past, reverse-append}
+use Rattle.std.proofs.lemmas.Bool.{false≢true, leb-true, le-leb, cases_eq}
+use Rattle.std.proofs.lemmas.List.{reverse-append}
 use Rattle.std.proofs.lemmas.List.FromFn.{get_or-map-range_with_len, length-map-range_with_len}
 use Rattle.std.proofs.lemmas.List.Sums.{sum_by-set}
 use Rattle.std.proofs.lemmas.Option.{none-some, same_Some}
@@ -15,10 +15,6 @@ use Rattle.wrp_paths.specs.Distances.{way_to}
 use Rattle.wrp_paths.specs.Search.{IsWalk, begins, goes_on, is_settled, unsettled}
 
 -- ---- an entry that is added
-
-pub entry_below : (table : List (Option Arrival)) (j : ℕ) (walk : Arrival) → entry_at table j ≡ Some walk → j < length table
-entry_below table j walk is =
-    elim (cases_lt j (length table)) [ inl below ↦ below | inr past ↦ absurd (none-some walk (sym (get_or_past table j None past) ∙ is)) ]
 
 pub none_there : (entry : Option Arrival) → is_some entry ≡ false → entry ≡ None
 none_there None is = refl
