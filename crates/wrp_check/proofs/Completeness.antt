@@ -29,7 +29,7 @@ use Rattle.wrp_lines.proofs.PairLists.{index-of_most}
 use Rattle.wrp_proof.proofs.LineLaws.{line-spelled}
 use Rattle.wrp_proof.proofs.SpelledLaws.{is_viewed, Tried, passes-tried, end_line-spelled}
 use Rattle.wrp_check.specs.Streams.{most_bytes, is_one_line}
-use Rattle.wrp_check.specs.JudgedLines.{judged_line, judged_end, is_end, is_judged_end}
+use Rattle.wrp_check.specs.JudgedLines.{judged_line, judged_end, is_end}
 use Rattle.wrp_check.specs.Verdicts.{Accepted, is_long, limit_of, verdict_on, verdict}
 use Rattle.wrp_check.specs.Accepted.{IsJudgedProof}
 use Rattle.wrp_check.proofs.VerdictSteps.{behind_records, verdict-goes, verdict-accepted, verdict-started}

@@ -1,6 +1,6 @@
 -- How many bytes were taken from a source, over several calls in a row.
-use Rattle.std.proofs.Common.{◌≡◌, ℕ, ◌+◌, ◌≤◌, List, [], ◌++◌, length, refl, arith, length-append}
-use Rattle.wrp_out.specs.Outside.{Input, Took, TookAtMost}
+use Rattle.std.proofs.Common.{◌≡◌, ◌+◌, ◌≤◌, [], ◌++◌, arith, length-append}
+use Rattle.wrp_out.specs.Outside.{Input, TookAtMost}
 use Rattle.wrp_out.proofs.OutsideFacts.{took_nothing, took_then}
 use Rattle.wrp_check.specs.Streams.{Buffered, Draws, HasDrawn, drawn, most_bytes}
 

@@ -1,9 +1,10 @@
 -- The lines of bytes: the first line cut off, and what its limit says.
 use Rattle.std.proofs.Common.{inl, inr, ◌⊎◌, ◌≡◌, ℕ, ◌+◌, ◌<◌, Bool, true, false, ◌&&◌, not, ◌==◌, nat_lt, List, [], ◌∷◌, ◌++◌, length, refl, sym, ap, ◌∙◌, subst, arith, length-append}
 use Rattle.std.specs.Prelude.{min}
-use Rattle.std.proofs.lemmas.Bool.{and_parts, and_from, and_left, not-true, not_from_false, or_left, or_right, or_cases, lt-ltb, ltb-true, eqb-true, ne_eqb, false_from_ne_true}
+use Rattle.std.proofs.lemmas.Bool.{and_parts, and_from, and_left, not-true, not_from_false, or_left, or_right, lt-ltb, eqb-true, ne_eqb}
 use Rattle.wrp_check.specs.Streams.{most_bytes, is_one_line, line_len, PassesLimit}
 use Rattle.wrp_check.specs.Verdicts.{lines_in, is_long}
+use Rattle.wrp_check.proofs.FirstLines.{line_len_fed, line_len_whole}
 
 -- the first line of bytes that go on behind it
 pub lines-more : (line rest : List ℕ) → is_one_line line ≡ true → lines_in (line ++ 10 ∷ rest) ≡ line ∷ lines_in rest
@@ -80,61 +81,26 @@ first_line (byte ∷ bytes) = behind (byte == 10) refl (first_line bytes)
 
 -- ---- the limit of a line
 
-line_len-more : (line rest : List ℕ) → is_one_line line ≡ true → line_len (line ++ 10 ∷ rest) ≡ length line
-line_len-more [] rest h = refl
-line_len-more (byte ∷ line) rest h =
-    let both = and_parts (not (byte == 10)) (is_one_line line) h in
-    let same = both.0 in
-    let others = line_len-more line rest both.1 in
-    rw (same, others) (omega arith)
-
-line_len-one : (line : List ℕ) → is_one_line line ≡ true → line_len line ≡ length line
-line_len-one [] h = refl
-line_len-one (byte ∷ line) h =
-    let both = and_parts (not (byte == 10)) (is_one_line line) h in
-    let same = both.0 in
-    let others = line_len-one line both.1 in
-    rw (same, others) (omega arith)
-
--- a test of two orders, as two orders
-is_long-passes : (limit taken own : ℕ) (line : List ℕ) → is_long limit taken line own ≡ true → (limit < length line) ⊎ (most_bytes < taken + own)
-is_long-passes limit taken own line h = elim (or_cases (nat_lt limit (length line)) (nat_lt most_bytes (taken + own)) h) [
-  | inl long ↦ inl (ltb-true limit (length line) long)
-  | inr past ↦ inr (ltb-true most_bytes (taken + own) past)
-]
-
+-- two orders, as a test of two orders
 passes-is_long : (limit taken own : ℕ) (line : List ℕ) → (limit < length line) ⊎ (most_bytes < taken + own) → is_long limit taken line own ≡ true
 passes-is_long limit taken own line (inl long) = or_left (nat_lt limit (length line)) (nat_lt most_bytes (taken + own)) (lt-ltb limit (length line) long)
 passes-is_long limit taken own line (inr past) = or_right (nat_lt limit (length line)) (nat_lt most_bytes (taken + own)) (lt-ltb most_bytes (taken + own) past)
 
 own-more : (line rest : List ℕ) → is_one_line line ≡ true → min (line_len (line ++ 10 ∷ rest) + 1) (length (line ++ 10 ∷ rest)) ≡ length line + 1
-own-more line rest h = let own = line_len-more line rest h in let all = length-append line (10 ∷ rest) in omega (arith, own, all)
+own-more line rest h = let own = line_len_fed line rest h in let all = length-append line (10 ∷ rest) in omega (arith, own, all)
 
 own-one : (line : List ℕ) → is_one_line line ≡ true → min (line_len line + 1) (length line) ≡ length line
-own-one line h = let own = line_len-one line h in omega (arith, own)
+own-one line h = let own = line_len_whole line h in omega (arith, own)
 
 -- two tests of a line are those of its bytes, where its length and its own bytes are theirs
 long-as : (limit taken own : ℕ) (line bytes : List ℕ) → line_len bytes ≡ length line → min (line_len bytes + 1) (length bytes) ≡ own → PassesLimit limit taken bytes → is_long limit taken line own ≡ true
 long-as limit taken own line bytes len all (inl long) = passes-is_long limit taken own line (inl (subst (λ n. limit < n) len long))
 long-as limit taken own line bytes len all (inr past) = passes-is_long limit taken own line (inr (subst (λ n. most_bytes < taken + n) all past))
 
-short-as : (limit taken own : ℕ) (line bytes : List ℕ) → line_len bytes ≡ length line → min (line_len bytes + 1) (length bytes) ≡ own → (PassesLimit limit taken bytes → ⊥) → is_long limit taken line own ≡ false
-short-as limit taken own line bytes len all within = false_from_ne_true (is_long limit taken line own) (λ long. within (back (is_long-passes limit taken own line long)))
-  where
-    back : (limit < length line) ⊎ (most_bytes < taken + own) → PassesLimit limit taken bytes
-    back (inl long) = inl (subst (λ n. limit < n) (sym len) long)
-    back (inr past) = inr (subst (λ n. most_bytes < taken + n) (sym all) past)
-
--- a line with its line feed is long just where the bytes pass the limit
+-- a line with its line feed is long where the bytes pass the limit
 pub long-more : (limit taken : ℕ) (line rest : List ℕ) → is_one_line line ≡ true → PassesLimit limit taken (line ++ 10 ∷ rest) → is_long limit taken line (length line + 1) ≡ true
-long-more limit taken line rest h = long-as limit taken (length line + 1) line (line ++ 10 ∷ rest) (line_len-more line rest h) (own-more line rest h)
-
-pub short-more : (limit taken : ℕ) (line rest : List ℕ) → is_one_line line ≡ true → (PassesLimit limit taken (line ++ 10 ∷ rest) → ⊥) → is_long limit taken line (length line + 1) ≡ false
-short-more limit taken line rest h = short-as limit taken (length line + 1) line (line ++ 10 ∷ rest) (line_len-more line rest h) (own-more line rest h)
+long-more limit taken line rest h = long-as limit taken (length line + 1) line (line ++ 10 ∷ rest) (line_len_fed line rest h) (own-more line rest h)
 
 -- and so is the last line
 pub long-one : (limit taken : ℕ) (line : List ℕ) → is_one_line line ≡ true → PassesLimit limit taken line → is_long limit taken line (length line) ≡ true
-long-one limit taken line h = long-as limit taken (length line) line line (line_len-one line h) (own-one line h)
-
-pub short-one : (limit taken : ℕ) (line : List ℕ) → is_one_line line ≡ true → (PassesLimit limit taken line → ⊥) → is_long limit taken line (length line) ≡ false
-short-one limit taken line h = short-as limit taken (length line) line line (line_len-one line h) (own-one line h)
+long-one limit taken line h = long-as limit taken (length line) line line (line_len_whole line h) (own-one line h)

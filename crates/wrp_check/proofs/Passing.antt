@@ -1,5 +1,5 @@
 -- How the lines that the checker reads decide its verdict.
-use Rattle.std.proofs.Common.{Bool, cond, ◌&&◌, ◌==◌, nat_lt, ◌≡◌, ◌≢◌, ℕ, ◌+◌, ◌<◌, ◌≤◌, ◌^◌, true, false, List, [], ◌∷◌, ◌++◌, length, Option, None, Some, IfSome, IfOk, IfErr, OnOk, Result, Ok, Err, refl, sym, ◌∙◌, ap, subst, append_assoc, arith}
+use Rattle.std.proofs.Common.{Bool, cond, ◌&&◌, nat_lt, ◌≡◌, ◌≢◌, ℕ, ◌+◌, ◌≤◌, ◌^◌, true, false, List, [], ◌∷◌, ◌++◌, length, Option, None, Some, IfSome, IfOk, IfErr, Result, Ok, Err, refl, sym, ◌∙◌, ap, subst, append_assoc, arith}
 use Rattle.std.specs.Option.{option_map}
 use Rattle.std.specs.Str.{bytes_eq}
 use Rattle.std.proofs.lemmas.Bool.{eq-eqb, ne_eqb, ltb-false, or_parts}
@@ -20,13 +20,13 @@ use Rattle.wrp_check.specs.declared.pass.CheckFault.TheVariants as faults
 use Rattle.wrp_check.specs.declared.pass.Progress.{Progress}
 use Rattle.wrp_check.specs.Streams.{Buffered, most_bytes, ahead}
 use Rattle.wrp_check.specs.JudgedLines.{judged_line, judged_end, is_end}
-use Rattle.wrp_check.specs.Verdicts.{Verdict, Accepted, Refused, Long, Stage, Next, Over, Place, limit_of, is_long, stage_behind, verdict, verdict_on, first_place, FaultIs, FaultOn, AnswerIs}
+use Rattle.wrp_check.specs.Verdicts.{Verdict, Accepted, Stage, Next, Over, Place, limit_of, is_long, stage_behind, verdict, verdict_on, first_place, FaultIs, FaultOn, AnswerIs}
 use Rattle.wrp_check.specs.Judging.{Stands, Judges}
 use Rattle.wrp_check.specs.Passes.{TakesLine, Unread, Behind, Begins, place_of, GoesOn, Closes, Reaches, Whole}
 use Rattle.wrp_check.specs.Accepted.{IsJudgedProof}
 use Rattle.wrp_check.proofs.Soundness.{verdict-judged, judged-proof, judged-holds}
 use Rattle.wrp_check.proofs.Completeness.{judged-accepted}
-use Rattle.wrp_check.proofs.VerdictSteps.{IsOpen, open_first, open_next, verdict-missing, verdict-passes, verdict-closed, verdict-after, after_end, step-goes, step-refused, place_behind}
+use Rattle.wrp_check.proofs.VerdictSteps.{IsOpen, open_first, open_next, verdict-missing, verdict-passes, verdict-closed, verdict-after, after_end, step-goes, step-refused}
 
 some_same : {a b : ℕ} → Some a ≡ Some b → a ≡ b
 some_same e = cc

@@ -1,15 +1,15 @@
 -- Steps of a reader, over the input as it is handed out.
-use Rattle.std.proofs.Common.{◌≡◌, ◌≢◌, ℕ, ◌+◌, ◌<◌, ◌≤◌, ◌⊎◌, ◌∙◌, ◌==◌, not, min, true, List, [], ◌∷◌, ◌++◌, length, take, drop, Option, None, Some, IfSome, IsErrOf, Err, Bool, false, IsTrue, refl, sym, ap, arith, inl, inr, append_assoc}
+use Rattle.std.proofs.Common.{◌≡◌, ◌≢◌, ℕ, ◌+◌, ◌<◌, ◌≤◌, ◌∙◌, ◌==◌, not, true, List, [], ◌∷◌, ◌++◌, length, take, drop, Option, None, Some, IfSome, IsErrOf, Err, Bool, false, IsTrue, refl, ap, arith, inl, inr, append_assoc}
 use Rattle.std.specs.Option.{option_map}
 use Rattle.std.proofs.lemmas.Bool.{cases_lt}
 use Rattle.std.proofs.lemmas.List.{drop_all, length-append, append-nil}
 use Rattle.std.proofs.lemmas.List.Folds.{length-prefix_len, list_all-append}
 use Rattle.std.proofs.lemmas.List.Sums.{prefix_len-le-length}
-use Rattle.wrp_out.specs.Outside.{Input, Tells, Took}
+use Rattle.wrp_out.specs.Outside.{Input, Took}
 use Rattle.wrp_out.proofs.CountFacts.{never_falls_same}
 use Rattle.wrp_out.proofs.OutsideFacts.{took_then}
 use Rattle.wrp_check.specs.declared.lines.LinesFault.{LinesFault}
-use Rattle.wrp_check.specs.Streams.{Buffered, PassesLimit, PieceTooLong, ahead, is_one_line, line_len, most_bytes}
+use Rattle.wrp_check.specs.Streams.{Buffered, PassesLimit, PieceTooLong, ahead, is_one_line, line_len}
 use Rattle.wrp_check.proofs.FirstLines.{prefix_len_behind, prefix_len-le-append, front_passes, first_line_fed, first_line_whole}
 
 -- where bytes are told, these stand before the others
@@ -23,30 +23,6 @@ took_pending old new source piece same = record { front = by source.left; faults
     by : (told : Option (List ℕ)) → Stands (option_map (λ left. old.pending ++ left) told) (option_map (λ left. new.pending ++ left) told) piece
     by None = refl
     by (Some left) = ap Some (ap (λ bytes. bytes ++ left) same ∙ append_assoc piece new.pending left)
-
-no_bytes : (xs : List ℕ) → length xs ≡ 0 → xs ≡ []
-no_bytes [] h = refl
-no_bytes (x ∷ xs) h = absurd (omega arith)
-
--- bytes that became the pending ones were not handed out
-pub took_filled : (old new : Buffered) (before after : Input) → length old.pending ≡ 0 → Took before after new.pending → Took (ahead old before) (ahead new after) []
-took_filled old new before after none took = record {
-  front = by old.pending (no_bytes old.pending none) before.left after.left took.front;
-  faults = took.faults;
-}
-  where
-    by : (pending : List ℕ) → pending ≡ [] → (told left : Option (List ℕ)) → Stands told left new.pending → Stands (option_map (λ left. pending ++ left) told) (option_map (λ left. new.pending ++ left) left) []
-    by pending empty told None front = rw (empty, front) refl
-    by pending empty told (Some left) front = rw (empty, front) refl
-
--- where none came at the end of the source, nothing is left
-pub none_left : (new : Buffered) (before after : Input) → Took before after new.pending → length new.pending ≡ 0 → Tells before.left [] → Tells (ahead new after).left []
-none_left new before after took none end = by new.pending (no_bytes new.pending none) before.left after.left took.front end
-  where
-    by : (pending : List ℕ) → pending ≡ [] → (told left : Option (List ℕ)) → Stands told left pending → Tells told [] → Tells (option_map (λ left. pending ++ left) left) []
-    by pending empty told None front end = tt
-    by pending empty None (Some left) front end = absurd (cc)
-    by pending empty (Some bytes) (Some left) front end = cc
 
 -- where a byte is pending and nothing was handed out, something was left
 pub some_left : (old new : Buffered) (before after : Input) (P : List ℕ → Type 0) → Took (ahead old before) (ahead new after) [] → 0 < length new.pending → ((rest : List ℕ) → rest ≢ [] → P rest) → IfSome (ahead old before).left P

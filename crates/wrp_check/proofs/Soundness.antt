@@ -2,7 +2,7 @@
 use Rattle.std.proofs.Common.{inl, inr, ◌⊎◌, ◌≡◌, ℕ, ◌+◌, ◌≤◌, ◌^◌, Bool, true, false, cond, ◌&&◌, ◌==◌, nat_lt, List, [], ◌∷◌, ◌++◌, length, fold, Option, None, Some, is_none, Result, Ok, Err, refl, sym, ap, ◌∙◌, subst, arith, length-append, append_assoc, zero-add}
 use Rattle.std.specs.List.{AllByRecursion, join_with_byte}
 use Rattle.std.specs.Str.{bytes_eq}
-use Rattle.std.proofs.lemmas.Bool.{and_parts, and_from, or_parts, eqb-true, ltb-false, false≢true}
+use Rattle.std.proofs.lemmas.Bool.{and_parts, and_from, or_parts, ltb-false, false≢true}
 use Rattle.std.proofs.lemmas.List.Splits.{join_with_byte-slice_split}
 use Rattle.std.proofs.lemmas.Slice.Eq.{bytes_eq-Decides}
 use Rattle.wrp_town.specs.declared.town.Town.{Town}
@@ -26,7 +26,7 @@ use Rattle.wrp_laws.specs.Ends.{EndHolds}
 use Rattle.wrp_laws.proofs.PlainEnds.{proved_end}
 use Rattle.wrp_check.specs.Streams.{most_bytes}
 use Rattle.wrp_check.specs.JudgedLines.{unless, judged_record, judged_line, agreeing_end, judged_end, is_end, is_judged_end}
-use Rattle.wrp_check.specs.Verdicts.{Verdict, Accepted, Refused, Long, Stage, First, Next, Over, Place, is_long, is_too_long, limit_of, stage_of, next_stage, last_stage, stage_behind, behind, step, last_step, unended_rule, follow, verdict_along, first_place, over_lines, verdict}
+use Rattle.wrp_check.specs.Verdicts.{Verdict, Accepted, Refused, Long, Stage, Next, Over, Place, is_long, is_too_long, limit_of, stage_of, next_stage, last_stage, stage_behind, behind, step, follow, verdict_along, first_place, over_lines, verdict}
 use Rattle.wrp_check.specs.Accepted.{IsJudgedProof}
 use Rattle.wrp_check.proofs.LineCuts.{lines_of}
 use Rattle.wrp_check.proofs.VerdictSteps.{place_behind, behind_records, after_end}

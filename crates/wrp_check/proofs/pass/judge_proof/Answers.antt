@@ -1,6 +1,6 @@
 use Rattle.std.proofs.Common.{refl}
 use Rattle.wrp_check.proofs.Drawing.{drawn_then, drawn_at_most}
-use Rattle.wrp_check.proofs.Passing.{reaches_more, reaches_end, nothing_left}
+use Rattle.wrp_check.proofs.Passing.{reaches_more, reaches_end, reaches_fault, nothing_left}
 use Rattle.wrp_check.proofs.pass.judge_proof.Goals as goal
 
 pub lines-preserved : goal.lines-preserved
@@ -30,3 +30,8 @@ returns-in-Ok-Some-clause-taken g c = drawn_at_most (drawn_then c.lines.invarian
 
 pub returns-in-Err-step-clause-taken : goal.returns-in-Err-step-clause-taken
 returns-in-Err-step-clause-taken g c = drawn_at_most (drawn_then c.lines.invariant.drawn c.step.ensures.draws)
+
+pub returns-in-Err-step-clause-fault : goal.returns-in-Err-step-clause-fault
+returns-in-Err-step-clause-fault g c =
+    let reached = c.lines.invariant.reached in
+    reaches_fault c.args.town.now _ _ _ c.in-Err-step.fault reached (c.in-Err-step.ensures.steps reached.s reached.stands)

@@ -2,7 +2,7 @@ use Rattle.std.proofs.Common.{false, refl, sym, ◌∙◌}
 use Rattle.wrp_check.specs.Streams.{ahead}
 use Rattle.wrp_check.specs.Passes.{place_of}
 use Rattle.wrp_check.proofs.VerdictSteps.{open_next}
-use Rattle.wrp_check.proofs.Passing.{unread_told, end_refuses, line_refuses, closes, end_followed, goes, taken_most}
+use Rattle.wrp_check.proofs.Passing.{unread_told, end_refuses, line_refuses, closes, end_followed, goes}
 use Rattle.wrp_check.proofs.Readings.{not_true}
 use Rattle.wrp_check.proofs.Drawing.{draws_then}
 use Rattle.wrp_check.proofs.pass.Progress.step.Goals as goal
