@@ -6,7 +6,7 @@ use crate::run::postman;
 use crate::status::Status;
 use std::alloc::{AllocError, Global};
 use std::test::Fail;
-use wrp_out::{Failed, MemSink, MemSource, Source, SteadySink, SteadySource};
+use wrp_out::{Failed, MemSink, MemSource, Sink, Source, SteadySink, SteadySource};
 use wrp_proof::{End, Rule};
 
 /// The bytes that the sink of a test has room for.
@@ -149,6 +149,21 @@ fn in_pieces(alloc: Global, bytes: &[u8], more: usize, fail: u64) -> Result<Piec
     })
 }
 
+/// The status of a run of these words.
+fn status_of<S: Source, P: Source, O: Sink>(
+    alloc: Global,
+    texts: &[&str],
+    streets: &mut S,
+    proof: &mut P,
+    out: &mut O,
+) -> Result<Status, AllocError> {
+    let mut words = Vec::new(alloc);
+    for text in texts {
+        words.push(String::from_str(alloc, text)?)?;
+    }
+    Ok(postman(alloc, &words, streets, proof, out))
+}
+
 /// What a run answered, and the bytes that it wrote.
 #[derive(Debug, Drop)]
 struct Answer {
@@ -156,7 +171,7 @@ struct Answer {
     line: Vec<u8>,
 }
 
-/// The answer to these words over two sources, with so much room for its line.
+/// The answer to these words, with so much room for its line.
 fn answer_to<S: Source, P: Source>(
     alloc: Global,
     texts: &[&str],
@@ -164,12 +179,8 @@ fn answer_to<S: Source, P: Source>(
     proof: &mut P,
     room: usize,
 ) -> Result<Answer, AllocError> {
-    let mut words = Vec::new(alloc);
-    for text in texts {
-        words.push(String::from_str(alloc, text)?)?;
-    }
     let mut out = SteadySink::new(alloc, room)?;
-    let status = postman(alloc, &words, streets, proof, &mut out);
+    let status = status_of(alloc, texts, streets, proof, &mut out)?;
     Ok(Answer {
         status,
         line: Vec::from_slice(alloc, out.bytes())?,
@@ -247,26 +258,30 @@ fn reads_tables_as_spreadsheets_write_them(rt: HostRuntime) -> Result<(), Fail> 
     Ok(())
 }
 
+/// The line of a check of a table of so many bytes.
+fn line_of_table(alloc: Global, size: usize) -> Result<Vec<u8>, AllocError> {
+    let table = vec![in alloc; b'a'; size]?;
+    Ok(answer_of(alloc, &table, b"", ROOM)?.line)
+}
+
+/// The line of a check of a proof with a line of so many bytes.
+fn line_of_line(alloc: Global, size: usize) -> Result<Vec<u8>, AllocError> {
+    let mut proof = Vec::from_slice(alloc, b"postman-proof 1\n")?;
+    proof.extend_from_slice(&vec![in alloc; b'x'; size]?)?;
+    proof.push(b'\n')?;
+    Ok(answer_of(alloc, triangle(alloc)?.as_bytes(), &proof, ROOM)?.line)
+}
+
 #[test]
 fn takes_tables_and_lines_of_their_limits(rt: HostRuntime) -> Result<(), Fail> {
     let alloc = rt.alloc();
-    let table = triangle(alloc)?;
-    for (size, text) in [
-        (TABLE_BYTES, "table Header\n"),
-        (TABLE_BYTES + 1, "too long\n"),
+    for (line, text) in [
+        (line_of_table(alloc, TABLE_BYTES)?, "table Header\n"),
+        (line_of_table(alloc, TABLE_BYTES + 1)?, "too long\n"),
+        (line_of_line(alloc, LINE_BYTES)?, "refused 2 Form\n"),
+        (line_of_line(alloc, LINE_BYTES + 1)?, "too long\n"),
     ] {
-        let answer = answer_of(alloc, &vec![in alloc; b'a'; size]?, b"", ROOM)?;
-        assert_eq!(rt; answer.line.as_slice(), text.as_bytes(), "{size} bytes");
-    }
-    for (size, text) in [
-        (LINE_BYTES, "refused 2 Form\n"),
-        (LINE_BYTES + 1, "too long\n"),
-    ] {
-        let mut proof = Vec::from_slice(alloc, b"postman-proof 1\n")?;
-        proof.extend_from_slice(&vec![in alloc; b'x'; size]?)?;
-        proof.push(b'\n')?;
-        let answer = answer_of(alloc, table.as_bytes(), &proof, ROOM)?;
-        assert_eq!(rt; answer.line.as_slice(), text.as_bytes(), "{size} bytes");
+        assert_eq!(rt; line.as_slice(), text.as_bytes());
     }
     Ok(())
 }
@@ -329,14 +344,10 @@ fn keeps_a_refusal_that_cannot_be_written(rt: HostRuntime) -> Result<(), Fail> {
 #[test]
 fn ends_in_a_fault_where_the_write_fails(rt: HostRuntime) -> Result<(), Fail> {
     let alloc = rt.alloc();
-    let mut words = Vec::new(alloc);
-    for text in &WORDS[..3] {
-        words.push(String::from_str(alloc, text)?)?;
-    }
     let mut streets = SteadySource::new(alloc, triangle(alloc)?.as_bytes())?;
     let mut proof = SteadySource::new(alloc, PROOF.as_bytes())?;
     let mut out = MemSink::new(alloc, &[1])?;
-    let status = postman(alloc, &words, &mut streets, &mut proof, &mut out);
+    let status = status_of(alloc, &WORDS[..3], &mut streets, &mut proof, &mut out)?;
     assert_eq!(rt; status, Status::WriteFault);
     assert_eq!(rt; out.bytes(), b"".as_slice());
     Ok(())
