@@ -1,4 +1,3 @@
-pub mod Limits
+pub mod Kinds
 pub mod Views
-pub mod EndFaults
 pub mod Ends

@@ -1,79 +1,16 @@
-//! Records with lists of their own, made from views.
+//! Reads records with lists of their own.
 ghost use Rattle.std.specs.Prelude.{◌≡◌, ◌^◌, ◌≤◌, true, Some, length, IfOk, IfErr};
 ghost use Rattle.wrp_rules.specs.declared.record.Record.{Record};
 ghost use Rattle.wrp_proof.specs.declared.fault.LineFault.TheVariants as faults;
-ghost use Rattle.wrp_proof.specs.Views.{record_of, are_narrow, has_narrow_multipliers, spelled as record_spelled, IsLineOf, IsLineFaultOf, IsWithoutRecord};
+ghost use Rattle.wrp_grammar.specs.Spelling.{spelled as record_spelled};
+ghost use Rattle.wrp_proof.specs.Views.{record_of, has_narrow_multipliers, IsLineFaultOf, IsWithoutRecord};
 
 use crate::fault::LineFault;
 use crate::reading::view;
+use crate::records::to_record;
 use crate::views::{View, ViewFault};
-use std::alloc::{AllocError, Global};
-use wrp_grammar::{NumbersOf, PairsOf, StepsOf};
+use std::alloc::Global;
 use wrp_rules::Record;
-use wrp_town::{List, Step};
-
-/// The record with the fields and the lists of a view.
-///
-/// # Errors
-///
-/// Want of memory alone.
-pub fn to_record(alloc: Global, view: &View<'_>) -> Result<Record, AllocError>
-    requires { has_narrow_multipliers (record_of view.now) ≡ true }
-    ensures { IfOk result (λ item. item ≡ record_of view.now) }
-{
-    match view {
-        View::Tour { cost, steps } => Ok(Record::Tour {
-            cost: *cost,
-            steps: list_of_steps(alloc, steps)?,
-        }),
-        View::Conn { r1, r2, set } => Ok(Record::Conn {
-            r1: *r1,
-            r2: *r2,
-            set: list_of_numbers(alloc, set)?,
-        }),
-        View::Odd { set } => Ok(Record::Odd {
-            set: list_of_numbers(alloc, set)?,
-        }),
-        View::Round { divisor, mult } => Ok(Record::Round {
-            divisor: *divisor,
-            mult: list_of_multipliers(alloc, mult)?,
-        }),
-        View::Kc { k, of } => Ok(Record::Kc {
-            k: *k,
-            of: list_of_numbers(alloc, of)?,
-        }),
-        View::Bound { node, den, mult } => Ok(Record::Bound {
-            node: *node,
-            den: *den,
-            mult: list_of_multipliers(alloc, mult)?,
-        }),
-        View::Empty { node, mult } => Ok(Record::Empty {
-            node: *node,
-            mult: list_of_multipliers(alloc, mult)?,
-        }),
-        View::Apart { node, r1, r2, set } => Ok(Record::Apart {
-            node: *node,
-            r1: *r1,
-            r2: *r2,
-            set: list_of_numbers(alloc, set)?,
-        }),
-        View::Point { node, den, numbers } => Ok(Record::Point {
-            node: *node,
-            den: *den,
-            numbers: list_of_pairs(alloc, numbers)?,
-        }),
-        View::Blind { node } => Ok(Record::Blind { node: *node }),
-        View::Split { node, arc, k } => Ok(Record::Split {
-            node: *node,
-            arc: *arc,
-            k: *k,
-        }),
-        View::Labels { labels, streets } => Ok(Record::Labels {
-            labels: list_of_numbers(alloc, labels)?,
-            streets: list_of_numbers(alloc, streets)?,
-        }),
-    }
-}
 
 /// The record that a line spells.
 ///
@@ -81,7 +18,6 @@ pub fn to_record(alloc: Global, view: &View<'_>) -> Result<Record, AllocError>
 ///
 /// Form, Number or Long as of the line's view, or Memory.
 pub fn read_record(alloc: Global, line: &[u8]) -> Result<Record, LineFault>
-    ensures found { IfOk result (λ item. IsLineOf item line.now) }
     ensures spelled { IfOk result (λ item. record_spelled line.now ≡ Some item) }
     ensures short { IfOk result (λ item. length line.now ≤ 2 ^ 28) }
     ensures fault { IfErr result (λ fault. IsLineFaultOf line.now fault) }
@@ -106,55 +42,6 @@ fn record_from_view(alloc: Global, view: &View<'_>) -> Result<Record, LineFault>
         Ok(item) => Ok(item),
         Err(_) => Err(LineFault::Memory),
     }
-}
-
-/// The list of the steps that are left.
-fn list_of_steps(alloc: Global, steps: &StepsOf<'_>) -> Result<List<Step>, AllocError>
-    ensures { IfOk result (λ list. list ≡ steps.now) }
-{
-    let mut list = List::new(alloc);
-    let mut left = steps.again();
-    while let Some(step) = left.next() {
-        list.push(step)?;
-    }
-    Ok(list)
-}
-
-/// The list of the numbers that are left.
-fn list_of_numbers(alloc: Global, numbers: &NumbersOf<'_>) -> Result<List<u32>, AllocError>
-    ensures { IfOk result (λ list. list ≡ numbers.now) }
-{
-    let mut list = List::new(alloc);
-    let mut left = numbers.again();
-    while let Some(number) = left.next() {
-        list.push(number)?;
-    }
-    Ok(list)
-}
-
-/// The list of the pairs that are left.
-fn list_of_pairs(alloc: Global, pairs: &PairsOf<'_>) -> Result<List<(u32, u128)>, AllocError>
-    ensures { IfOk result (λ list. list ≡ pairs.now) }
-{
-    let mut list = List::new(alloc);
-    let mut left = pairs.again();
-    while let Some(pair) = left.next() {
-        list.push(pair)?;
-    }
-    Ok(list)
-}
-
-/// The list of the multipliers that are left.
-fn list_of_multipliers(alloc: Global, pairs: &PairsOf<'_>) -> Result<List<(u32, u64)>, AllocError>
-    requires { are_narrow pairs.now ≡ true }
-    ensures { IfOk result (λ list. list ≡ pairs.now) }
-{
-    let mut list = List::new(alloc);
-    let mut left = pairs.again();
-    while let Some((row, weight)) = left.next() {
-        list.push((row, weight as u64))?;
-    }
-    Ok(list)
 }
 
 #[cfg(test)]

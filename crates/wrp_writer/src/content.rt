@@ -1,12 +1,11 @@
 //! What stands in a line, lent from its record or its end. Nothing here takes memory.
-ghost use Rattle.std.specs.Prelude.{◌≡◌, ◌<◌, ◌≤◌, [], length, get_or};
-ghost use Rattle.wrp_rules.specs.Contents.{content_of as content_of_record, content_of_end as content_of_the_end};
-ghost use Rattle.wrp_rules.specs.Lines.{item_parts};
-ghost use Rattle.wrp_writer.specs.Seen.{content_seen, items_seen, numbers_seen, pairs_seen, part_text};
+ghost use Rattle.std.specs.Prelude.{◌≡◌};
+ghost use Rattle.wrp_rules.specs.Contents.{Numbers as NumberItems, Pairs as PairItems, content_of as content_of_record, content_of_end as content_of_the_end};
+ghost use Rattle.wrp_writer.specs.Seen.{content_seen, items_seen};
 
-use crate::part::Part;
+use crate::content::Numbers::{One, Three, Two, Zero};
 use wrp_rules::{End, Kind, Record};
-use wrp_town::Step;
+use wrp_town::{List, Step};
 
 /// The kind of a line, its leading numbers, and the items behind them.
 #[derive(Clone, Copy)]
@@ -49,54 +48,42 @@ pub(crate) fn content_of(item: &Record) -> Content<'_>
     match item {
         Record::Tour { cost, steps } => lent(
             Kind::Tour,
-            Numbers::One([*cost]),
+            One([*cost]),
             Items::Steps(steps.as_slice()),
         ),
         Record::Conn { r1, r2, set } => lent(
             Kind::Conn,
-            Numbers::Two([u64::from(*r1), u64::from(*r2)]),
-            Items::Numbers(set.as_slice()),
+            Two([u64::from(*r1), u64::from(*r2)]),
+            indexes(set),
         ),
-        Record::Odd { set } => lent(Kind::Odd, Numbers::Zero, Items::Numbers(set.as_slice())),
-        Record::Round { divisor, mult } => lent(
-            Kind::Round,
-            Numbers::One([*divisor]),
-            Items::Pairs(Pairs::Narrow(mult.as_slice())),
-        ),
-        Record::Kc { k, of } => lent(
-            Kind::Kc,
-            Numbers::One([u64::from(*k)]),
-            Items::Numbers(of.as_slice()),
-        ),
+        Record::Odd { set } => lent(Kind::Odd, Zero, indexes(set)),
+        Record::Round { divisor, mult } => lent(Kind::Round, One([*divisor]), multipliers(mult)),
+        Record::Kc { k, of } => lent(Kind::Kc, One([u64::from(*k)]), indexes(of)),
         Record::Bound { node, den, mult } => lent(
             Kind::Bound,
-            Numbers::Two([*node, *den]),
-            Items::Pairs(Pairs::Narrow(mult.as_slice())),
+            Two([*node, *den]),
+            multipliers(mult),
         ),
-        Record::Empty { node, mult } => lent(
-            Kind::Empty,
-            Numbers::One([*node]),
-            Items::Pairs(Pairs::Narrow(mult.as_slice())),
-        ),
+        Record::Empty { node, mult } => lent(Kind::Empty, One([*node]), multipliers(mult)),
         Record::Apart { node, r1, r2, set } => lent(
             Kind::Apart,
-            Numbers::Three([*node, u64::from(*r1), u64::from(*r2)]),
-            Items::Numbers(set.as_slice()),
+            Three([*node, u64::from(*r1), u64::from(*r2)]),
+            indexes(set),
         ),
         Record::Point { node, den, numbers } => lent(
             Kind::Point,
-            Numbers::Two([*node, *den]),
+            Two([*node, *den]),
             Items::Pairs(Pairs::Wide(numbers.as_slice())),
         ),
-        Record::Blind { node } => lent(Kind::Blind, Numbers::One([*node]), Items::Nothing),
+        Record::Blind { node } => lent(Kind::Blind, One([*node]), Items::Nothing),
         Record::Split { node, arc, k } => lent(
             Kind::Split,
-            Numbers::Three([*node, u64::from(*arc), u64::from(*k)]),
+            Three([*node, u64::from(*arc), u64::from(*k)]),
             Items::Nothing,
         ),
         Record::Labels { labels, streets } => lent(
             Kind::Labels,
-            Numbers::Zero,
+            Zero,
             Items::TwoLists(labels.as_slice(), streets.as_slice()),
         ),
     }
@@ -107,13 +94,9 @@ pub(crate) fn content_of_end(end: &End) -> Content<'static>
     ensures { content_seen result ≡ content_of_the_end end.now }
 {
     match end {
-        End::Optimal { cost } => lent(Kind::Optimal, Numbers::One([*cost]), Items::Nothing),
-        End::Infeasible => lent(Kind::Infeasible, Numbers::Zero, Items::Nothing),
-        End::Unfinished { low, high } => lent(
-            Kind::Unfinished,
-            Numbers::Two([*low, *high]),
-            Items::Nothing,
-        ),
+        End::Optimal { cost } => lent(Kind::Optimal, One([*cost]), Items::Nothing),
+        End::Infeasible => lent(Kind::Infeasible, Zero, Items::Nothing),
+        End::Unfinished { low, high } => lent(Kind::Unfinished, Two([*low, *high]), Items::Nothing),
     }
 }
 
@@ -127,4 +110,16 @@ fn lent(kind: Kind, numbers: Numbers, items: Items<'_>) -> Content<'_>
         numbers,
         items,
     }
+}
+
+fn indexes(numbers: &List<u32>) -> Items<'_>
+    ensures { items_seen result ≡ NumberItems numbers.now }
+{
+    Items::Numbers(numbers.as_slice())
+}
+
+fn multipliers(mult: &List<(u32, u64)>) -> Items<'_>
+    ensures { items_seen result ≡ PairItems mult.now }
+{
+    Items::Pairs(Pairs::Narrow(mult.as_slice()))
 }

@@ -1,7 +1,0 @@
-use Rattle.std.proofs.Common.{◌≡◌, ◌+◌, ◌*◌, ◌≤◌, map, length, drop}
-use Rattle.wrp_rules.specs.Lines.{pair_text}
-use Rattle.wrp_grammar.proofs.Spacing.{spread}
-use Rattle.wrp_proof.proofs.lengths.pairs_len.Given as goal
-
-abbrev pub invariant-loop-pair : goal.invariant-loop-pair
-invariant-loop-pair l = record { value : l.len + length (spread (map pair_text (drop l.pair-index l.pairs))) ≡ length (spread (map pair_text l.pairs)); small : l.len ≤ 100 * l.pair-index }

@@ -1,5 +1,0 @@
-use Rattle.wrp_grammar.proofs.Climbs.{climbs-start}
-use Rattle.wrp_proof.proofs.limits.arcs_ascend.Goals as goal
-
-pub loop-pair-init : goal.loop-pair-init
-loop-pair-init c = climbs-start (λ q. q.0) c.args.pairs.now

@@ -1,7 +1,0 @@
-use Rattle.std.proofs.Common.{◌≡◌, ◌-◌, ◌^◌, map, drop}
-use Rattle.wrp_rules.specs.Rules.{is_ascending}
-use Rattle.wrp_grammar.proofs.Climbs.{climbs}
-use Rattle.wrp_proof.proofs.limits.rows_ascend.Given as goal
-
-abbrev pub invariant-loop-pair : goal.invariant-loop-pair
-invariant-loop-pair l = climbs (λ q. q.0) l.low (drop l.pair-index l.mult) ≡ is_ascending (2 ^ 32 - 1) (map (λ q. q.0) l.mult)
