@@ -1,5 +1,4 @@
 //! The parts of a line that are still to be read: steps or pairs, lent from the line.
-//! Nothing here takes memory.
 ghost use Rattle.std.specs.Prelude.{nat_lt, nat_le, length, ◌+◌, Some, None, if◌then◌else◌, ◌≡◌, ◌<◌, ◌≤◌, ◌^◌, ◌&&◌, ◌∷◌, [], map, true, is_some, IfSome, IfNone};
 ghost use Rattle.std.specs.Iterator.{YieldsFirst, item_count};
 ghost use Rattle.std.specs.List.{list_all, join_with_byte};
@@ -8,13 +7,11 @@ ghost use Rattle.wrp_grammar.specs.Parts.{parts_of, is_step, step_of, is_pair, p
 
 use crate::text::{read_pair, read_step, split_part};
 use std::marker::Model;
+use wrp_rules::MOST_MULTIPLIERS;
 use wrp_town::Step;
 
 /// The second number of each pair is at most this.
 const MOST_SECOND: u128 = 1 << 72;
-
-/// A record has at most as many multipliers.
-pub const MOST_MULTIPLIERS: usize = 4096;
 
 /// The steps that are left of a line. Contracts see the list of the steps.
 #[derive(Debug, Drop)]

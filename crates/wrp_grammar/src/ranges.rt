@@ -6,9 +6,8 @@ ghost use Rattle.wrp_grammar.specs.Numbers.{is_range_part, is_right_part, tail_k
 
 use crate::labels::is_slash_text;
 use crate::numbers::next_low;
-use crate::parts::MOST_MULTIPLIERS;
 use crate::text::{halves, read_count, read_from_one, read_index, read_step, split_part};
-use wrp_rules::{Range, Tail};
+use wrp_rules::{MOST_MULTIPLIERS, Range, Tail};
 
 /// The place of the first number that breaks a rule, among leading numbers and what follows them.
 pub fn parts_number(left: &[u8], numbers: &[Range], tail: Tail) -> usize

@@ -8,10 +8,8 @@ use Rattle.wrp_rules.specs.declared.layout.Kind.{Kind}
 use Rattle.wrp_rules.specs.declared.layout.Kind.TheVariants as kinds
 use Rattle.wrp_rules.specs.Layouts.{layout_of, record_kinds, end_kinds}
 use Rattle.wrp_rules.specs.Contents.{Content}
-use Rattle.wrp_grammar.specs.Parts.{is_spaced, parts_of}
-use Rattle.wrp_grammar.specs.Shapes.{has_parts_shape, goes_on_in}
-use Rattle.wrp_grammar.specs.Numbers.{keeps_rules, is_right_in, is_right_line}
-use Rattle.wrp_grammar.specs.Spelling.{is_right_behind, content_of_parts, content_behind, content_in}
+use Rattle.wrp_grammar.specs.Numbers.{is_right_line}
+use Rattle.wrp_grammar.specs.Spelling.{content_behind, content_in}
 use Rattle.wrp_grammar.specs.Words.{words_are_apart}
 use Rattle.wrp_grammar.proofs.PlaceLaws.{content-right}
 use Rattle.wrp_proof.specs.Kinds.{is_record_kind, is_end_kind}
@@ -44,11 +42,11 @@ found [] line c h = absurd (no h)
   where
     no : None ≡ Some c → ⊥
     no e = cc
-found (kind ∷ kinds) line c h = by (starts_with nat_eq line (layout_of kind).word) refl h
+found (kind ∷ kinds) line c h = by (starts_with nat_eq line (layout_of kind).word) refl h (found kinds line c)
   where
-    by : (b : Bool) → starts_with nat_eq line (layout_of kind).word ≡ b → cond b (content_behind kind (drop (length (layout_of kind).word) line)) (content_in kinds line) ≡ Some c → IsFound (kind ∷ kinds) line c
-    by true e k = record { kind = kind; left = drop (length (layout_of kind).word) line; text = word-cut kind line e; read = k }
-    by false e k = let is = found kinds line c k in record { kind = is.kind; left = is.left; text = is.text; read = is.read }
+    by : (b : Bool) → starts_with nat_eq line (layout_of kind).word ≡ b → cond b (content_behind kind (drop (length (layout_of kind).word) line)) (content_in kinds line) ≡ Some c → (content_in kinds line ≡ Some c → IsFound kinds line c) → IsFound (kind ∷ kinds) line c
+    by true e k rest = record { kind = kind; left = drop (length (layout_of kind).word) line; text = word-cut kind line e; read = k }
+    by false e k rest = let is = rest k in record { kind = is.kind; left = is.left; text = is.text; read = is.read }
 
 -- where nothing is found, the line isn't right
 pub nothing-right : (kinds : List Kind) → words_are_apart kinds ≡ true → (line : List ℕ) → content_in kinds line ≡ None → is_right_line kinds line ≡ false

@@ -1,5 +1,5 @@
 -- A line spells the record, or the end, of which it is the line, and no other.
-use Rattle.std.proofs.Common.{Option, Some, None, ◌≡◌, ℕ, Bool, true, false, List, [], ◌∷◌, ◌++◌, refl, sym, ap, ◌∙◌, subst}
+use Rattle.std.proofs.Common.{Option, Some, None, IfSome, ◌≡◌, ℕ, Bool, true, false, List, [], ◌∷◌, ◌++◌, refl, sym, ap, ◌∙◌, subst}
 use Rattle.wrp_rules.specs.declared.layout.Kind.{Kind}
 use Rattle.wrp_rules.specs.declared.layout.Kind.TheVariants as kinds
 use Rattle.wrp_rules.specs.declared.record.Record.{Record}
@@ -14,7 +14,8 @@ use Rattle.wrp_grammar.proofs.Spacing.{spread}
 use Rattle.wrp_grammar.proofs.LayoutTexts.{line_parts}
 use Rattle.wrp_grammar.proofs.KindLines.{behind-read, read-behind}
 use Rattle.wrp_proof.specs.Kinds.{is_record_kind, is_end_kind}
-use Rattle.wrp_proof.specs.Views.{IsLineOf}
+use Rattle.wrp_proof.specs.declared.views.View.{View}
+use Rattle.wrp_proof.specs.Views.{record_of, IsLineOf}
 use Rattle.wrp_proof.specs.Ends.{IsEndLineOf}
 use Rattle.wrp_proof.proofs.KindLaws.{record-behind, end-behind, found}
 
@@ -125,6 +126,15 @@ spelled-of line c item h e = ap record_of_content (h ∙ ap (λ x. Some x) (sym 
 pub spelled_end-of : (line : List ℕ) (c : Content) (end : End) → content_in end_kinds line ≡ Some c → content_of_end end ≡ c → spelled_end line ≡ Some end
 unfolding spelled_end
 spelled_end-of line c end h e = ap end_of_content (h ∙ ap (λ x. Some x) (sym e)) ∙ end-with end
+
+-- where a reader gives something
+pub views-spelled : (line : List ℕ) (c : Content) (r : Option View) → content_in record_kinds line ≡ Some c → IfSome r (λ v. content_of (record_of v) ≡ c) → IfSome r (λ v. spelled line ≡ Some (record_of v))
+views-spelled line c None h e = e
+views-spelled line c (Some v) h e = spelled-of line c (record_of v) h e
+
+pub ends-spelled : (line : List ℕ) (c : Content) (r : Option End) → content_in end_kinds line ≡ Some c → IfSome r (λ end. content_of_end end ≡ c) → IfSome r (λ end. spelled_end line ≡ Some end)
+ends-spelled line c None h e = e
+ends-spelled line c (Some end) h e = spelled_end-of line c end h e
 
 pub not-spelled : (line : List ℕ) → content_in record_kinds line ≡ None → spelled line ≡ None
 unfolding spelled

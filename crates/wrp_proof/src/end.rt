@@ -8,10 +8,10 @@ ghost use Rattle.wrp_proof.specs.Kinds.{is_end_kind};
 ghost use Rattle.wrp_proof.specs.Ends.{is_later_end as is_later_line, line_fault, IsEndFault};
 
 use crate::fault::LineFault;
-use crate::kinds::{END_KINDS, MOST_BYTES, end_kind, fault_in};
+use crate::kinds::{END_KINDS, end_kind, fault_in};
 use crate::views::ViewFault;
 use wrp_grammar::{ContentOf, read_content};
-use wrp_rules::{End, Kind};
+use wrp_rules::{End, Kind, LONGEST_LINE};
 
 /// The end that a line spells.
 ///
@@ -25,7 +25,7 @@ pub fn read_end(line: &[u8]) -> Result<End, LineFault>
     // No end is spelled by a line that is refused, unless it is long.
     ensures none { IfErr result (λ fault. length line.now ≤ 2 ^ 28 → spelled_end line.now ≡ None) }
 {
-    if line.len() > MOST_BYTES {
+    if line.len() > LONGEST_LINE {
         return Err(LineFault::Long);
     }
     match end_of_line(line) {

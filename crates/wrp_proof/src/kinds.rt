@@ -11,9 +11,6 @@ use crate::views::ViewFault;
 use wrp_grammar::{form_place, number_place};
 use wrp_rules::{Kind, layout_of};
 
-/// A line of a proof has at most as many bytes.
-pub(crate) const MOST_BYTES: usize = 1 << 28;
-
 pub(crate) const RECORD_KINDS: [Kind; 12] = [
     Kind::Tour,
     Kind::Conn,

@@ -9,6 +9,8 @@ mod laws;
 mod owned;
 mod reading;
 mod records;
+#[cfg(test)]
+mod tests;
 mod views;
 
 pub use end::{is_later_end, read_end};

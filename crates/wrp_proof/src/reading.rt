@@ -7,10 +7,10 @@ ghost use Rattle.wrp_grammar.specs.Spelling.{content_in, spelled};
 ghost use Rattle.wrp_proof.specs.Kinds.{is_record_kind};
 ghost use Rattle.wrp_proof.specs.Views.{record_of, is_later_letter, goes_on as goes_on_behind, is_later as is_later_line, IsFaultOf};
 
-use crate::kinds::{MOST_BYTES, RECORD_KINDS, fault_in, record_kind};
+use crate::kinds::{RECORD_KINDS, fault_in, record_kind};
 use crate::views::{View, ViewFault};
 use wrp_grammar::{ContentOf, ItemsOf, Leading, NumbersOf, PairsOf, StepsOf, read_content};
-use wrp_rules::Kind;
+use wrp_rules::{Kind, LONGEST_LINE};
 
 /// The view of the line of a record.
 ///
@@ -38,7 +38,7 @@ pub fn view(line: &[u8]) -> Result<View<'_>, ViewFault>
     // No record is spelled by a line that is refused, unless it is long.
     ensures none { IfErr result (λ fault. length line.now ≤ 2 ^ 28 → spelled line.now ≡ None) }
 {
-    if line.len() > MOST_BYTES {
+    if line.len() > LONGEST_LINE {
         return Err(ViewFault::Long);
     }
     match view_of_line(line) {
