@@ -11,7 +11,8 @@ use Rattle.wrp_rules.specs.declared.rule.Rule.{Rule}
 use Rattle.wrp_rules.specs.declared.rule.Rule.TheVariants as rules
 use Rattle.wrp_rules.specs.Rows.{base_rows}
 use Rattle.wrp_rules.specs.Nodes.{Standing, root, with_bound, is_below, bound_value, after}
-use Rattle.wrp_rules.specs.Rules.{has_number_rules, is_labels, first_broken}
+use Rattle.wrp_rules.specs.Contents.{has_number_rules}
+use Rattle.wrp_rules.specs.Rules.{is_labels, first_broken}
 use Rattle.wrp_rules.specs.Judged.{judged_rule}
 use Rattle.wrp_check.specs.declared.judge.Judge.{Judge}
 use Rattle.wrp_check.specs.declared.bound.BoundVerdict.{BoundVerdict}

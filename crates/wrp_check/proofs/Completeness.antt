@@ -18,7 +18,9 @@ use Rattle.wrp_rules.specs.declared.rule.Rule.{Rule}
 use Rattle.wrp_rules.specs.Nodes.{Standing, start, after, standing}
 use Rattle.wrp_rules.specs.Lines.{line_of, end_line, step_text, pair_text}
 use Rattle.wrp_rules.specs.Lists.{goes_on, is_done, is_upper, agrees}
-use Rattle.wrp_rules.specs.Rules.{is_index, is_count, is_from_one, is_ascending, are_pairs, are_multipliers, has_number_rules, broken_rule}
+use Rattle.wrp_rules.specs.Contents.{has_number_rules, has_end_numbers}
+use Rattle.wrp_rules.specs.Ranges.{is_index, is_count, is_from_one, is_ascending, are_pairs, are_multipliers}
+use Rattle.wrp_rules.specs.Rules.{broken_rule}
 use Rattle.wrp_rules.specs.Judged.{is_judged, go_on_judged, are_judged}
 use Rattle.wrp_proof.specs.Views.{is_later}
 use Rattle.wrp_rules.specs.Proofs.{Version, version_1, version_2, ended, record_lines, IsProofBy}
@@ -26,8 +28,8 @@ use Rattle.wrp_grammar.proofs.Written.{text-number}
 use Rattle.wrp_grammar.proofs.WrittenPairs.{number_digits}
 use Rattle.wrp_grammar.proofs.Spacing.{spread}
 use Rattle.wrp_grammar.proofs.PairLists.{index-of_most}
-use Rattle.wrp_proof.proofs.LineLaws.{line-spelled}
-use Rattle.wrp_proof.proofs.SpelledLaws.{is_viewed, Tried, passes-tried, end_line-spelled}
+use Rattle.wrp_proof.proofs.LineLaws.{line-spelled, end_line-spelled}
+use Rattle.wrp_proof.proofs.SpelledLaws.{is_viewed, Tried, passes-tried}
 use Rattle.wrp_check.specs.Streams.{most_bytes, is_one_line}
 use Rattle.wrp_check.specs.JudgedLines.{judged_line, judged_end, is_end}
 use Rattle.wrp_check.specs.Verdicts.{Accepted, is_long, limit_of, verdict_on, verdict}
@@ -68,9 +70,9 @@ most-small : (most n : ℕ) → most < 2 ^ 64 → is_from_one most n ≡ true �
 most-small most n low h = let small : n ≤ most = leb-true n most (and_parts (nat_le 1 n) (nat_le n most) h).1 in omega arith
 
 step-one : (step : Step) → is_index step.street ≡ true → is_one_line (step_text step) ≡ true
-step-one step h = both-one (decimal step.street) (cond step.back 45 43 ∷ []) (number-one step.street (index-small step.street h)) (sign step.back)
+step-one step h = both-one (decimal step.street) (cond step.back (codes "-") (codes "+")) (number-one step.street (index-small step.street h)) (sign step.back)
   where
-    sign : (back : Bool) → is_one_line (cond back 45 43 ∷ []) ≡ true
+    sign : (back : Bool) → is_one_line (cond back (codes "-") (codes "+")) ≡ true
     sign true = refl
     sign false = refl
 
@@ -87,7 +89,7 @@ pairs-one (pair ∷ pairs) up range =
     let index = index-of_most pair.0 (and_parts (nat_le pair.0 (2 ^ 32 - 1)) (list_all (nat_lt pair.0) (map (λ q. q.0) pairs)) ups.0).0 in
     let ranges = and_parts (is_from_one (2 ^ 60) pair.1) (list_all (λ q. is_from_one (2 ^ 60) q.1) pairs) range in
     and_from (is_one_line (pair_text pair)) (list_all is_one_line (map pair_text pairs))
-    (both-one (decimal pair.0) (58 ∷ decimal pair.1) (number-one pair.0 (index-small pair.0 index)) (number-one pair.1 (most-small (2 ^ 60) pair.1 (omega arith) ranges.0)))
+    (both-one (decimal pair.0 ++ codes ":") (decimal pair.1) (both-one (decimal pair.0) (codes ":") (number-one pair.0 (index-small pair.0 index)) refl) (number-one pair.1 (most-small (2 ^ 60) pair.1 (omega arith) ranges.0)))
     (pairs-one pairs ups.1 ranges.1)
 
 -- a line that is read as one of a record
@@ -98,24 +100,26 @@ record IsRecordLine (item : Record) : Type 0 where
 
 tour-line_is : (cost : ℕ) (steps : List Step) → has_number_rules (Tour cost steps) ≡ true → IsRecordLine (Tour cost steps)
 tour-line_is cost steps h =
-    let both = and_parts (is_count cost) (list_all (λ step. is_index step.street) steps) h in
+    let both = and_parts (is_count cost && true) (list_all (λ step. is_index step.street) steps) h in
+    let count = and_parts (is_count cost) true both.0 in
     record {
       one = spread-one (decimal cost ∷ map step_text steps)
-          (and_from (is_one_line (decimal cost)) (list_all is_one_line (map step_text steps)) (number-one cost (count-small cost both.0)) (steps-one steps both.1));
+          (and_from (is_one_line (decimal cost)) (list_all is_one_line (map step_text steps)) (number-one cost (count-small cost count.0)) (steps-one steps both.1));
       no_end = refl;
       no_later = refl;
     }
 
 bound-line_is : (node den : ℕ) (mult : List (ℕ × ℕ)) → has_number_rules (Bound node den mult) ≡ true → IsRecordLine (Bound node den mult)
 bound-line_is node den mult h =
-    let both = and_parts (is_count node && is_from_one (2 ^ 40) den) (are_multipliers (2 ^ 60) mult) h in
-    let numbers = and_parts (is_count node) (is_from_one (2 ^ 40) den) both.0 in
+    let both = and_parts (is_count node && (is_from_one (2 ^ 40) den && true)) (are_multipliers (2 ^ 60) mult) h in
+    let numbers = and_parts (is_count node) (is_from_one (2 ^ 40) den && true) both.0 in
+    let denominator = and_parts (is_from_one (2 ^ 40) den) true numbers.1 in
     let pairs = and_parts (are_pairs (2 ^ 60) mult) (nat_le (length mult) 4096) both.1 in
     let ranges = and_parts (is_ascending (2 ^ 32 - 1) (map (λ q. q.0) mult)) (list_all (λ q. is_from_one (2 ^ 60) q.1) mult) pairs.0 in
     record {
       one = spread-one (decimal node ∷ decimal den ∷ map pair_text mult)
           (and_from (is_one_line (decimal node)) (list_all is_one_line (decimal den ∷ map pair_text mult)) (number-one node (count-small node numbers.0))
-          (and_from (is_one_line (decimal den)) (list_all is_one_line (map pair_text mult)) (number-one den (most-small (2 ^ 40) den (omega arith) numbers.1)) (pairs-one mult ranges.0 ranges.1)));
+          (and_from (is_one_line (decimal den)) (list_all is_one_line (map pair_text mult)) (number-one den (most-small (2 ^ 40) den (omega arith) denominator.0)) (pairs-one mult ranges.0 ranges.1)));
       no_end = refl;
       no_later = refl;
     }
@@ -145,10 +149,13 @@ item-judged town s item tried =
 
 -- ---- the end line
 
+end-numbers : (cost : ℕ) → is_count cost ≡ true → has_end_numbers (Optimal cost) ≡ true
+end-numbers cost count = and_from (is_count cost && true) true (and_from (is_count cost) true count refl) refl
+
 end-judged : (s : Standing) (cost : ℕ) → is_count cost ≡ true → agrees s (Optimal cost) ≡ true → judged_end s (end_line (Optimal cost)) ≡ Ok (Optimal cost)
 end-judged s cost count agreed =
     let line = end_line (Optimal cost) in
-    let spells = end_line-spelled line (Optimal cost) (record { text = refl; numbers = count }) in
+    let spells = end_line-spelled line (Optimal cost) (record { text = refl; numbers = end-numbers cost count }) in
     rw (spells, agreed) refl
 
 end-one : (cost : ℕ) → is_count cost ≡ true → is_one_line (end_line (Optimal cost)) ≡ true
@@ -174,7 +181,7 @@ tour-counted None cost h count = count
 tour-counted (Some other) cost h count = min-count cost other count h
 
 item-counted : (town : Town) (s : Standing) (item : Record) → is_viewed item ≡ true → has_number_rules item ≡ true → option_map_or is_count s.upper true ≡ true → option_map_or is_count (after town s item).upper true ≡ true
-item-counted town s (Tour cost steps) v h upper = tour-counted s.upper cost upper (and_parts (is_count cost) (list_all (λ step. is_index step.street) steps) h).0
+item-counted town s (Tour cost steps) v h upper = tour-counted s.upper cost upper (and_parts (is_count cost) true (and_parts (is_count cost && true) (list_all (λ step. is_index step.street) steps) h).0).0
 item-counted town s (Bound node den mult) v h upper = upper
 item-counted town s (Conn r1 r2 set) v h upper = upper
 item-counted town s (Odd set) v h upper = upper

@@ -17,13 +17,15 @@ use Rattle.wrp_rules.specs.Lines.{line_of, end_line}
 use Rattle.wrp_rules.specs.Lists.{goes_on, agrees}
 use Rattle.wrp_rules.specs.Rules.{broken_rule}
 use Rattle.wrp_rules.specs.Judged.{is_judged, go_on_judged, judged_rule}
-use Rattle.wrp_proof.specs.Views.{is_later, spelled}
-use Rattle.wrp_grammar.specs.Shapes.{has_shape}
-use Rattle.wrp_proof.specs.Ends.{is_later_end, has_end_shape, spelled_end}
+use Rattle.wrp_proof.specs.Views.{is_later}
+use Rattle.wrp_grammar.specs.Spelling.{spelled, spelled_end}
+use Rattle.wrp_grammar.specs.Shapes.{has_shape, has_end_shape}
+use Rattle.wrp_proof.specs.Ends.{is_later_end}
 use Rattle.wrp_rules.specs.Proofs.{Version, version_1, version_2, ended, record_lines, IsProofBy, IsProof}
-use Rattle.wrp_proof.proofs.SpelledLaws.{spelled_viewed, spelled-end_line, judged-passes}
+use Rattle.wrp_proof.proofs.LineLaws.{spelled-end_line}
+use Rattle.wrp_proof.proofs.SpelledLaws.{spelled_viewed, judged-passes}
 use Rattle.wrp_laws.specs.Ends.{EndHolds}
-use Rattle.wrp_laws.proofs.JudgedEnds.{proved_end}
+use Rattle.wrp_laws.proofs.AllEnds.{proved_end}
 use Rattle.wrp_check.specs.Streams.{most_bytes}
 use Rattle.wrp_check.specs.JudgedLines.{unless, judged_record, judged_line, agreeing_end, judged_end, is_end, is_judged_end}
 use Rattle.wrp_check.specs.Verdicts.{Verdict, Accepted, Refused, Long, Stage, Next, Over, Place, is_long, is_too_long, limit_of, stage_of, next_stage, last_stage, stage_behind, behind, step, follow, verdict_along, first_place, over_lines, verdict}
@@ -307,5 +309,5 @@ judged-proof town end bytes (records, judged, last, proved) = (records, proved)
 
 -- and its end holds
 pub judged-holds : (town : Town) (end : End) (bytes : List ℕ) → IsJudgedProof town end bytes → EndHolds town end
-judged-holds town end bytes (records, judged, last, inl second) = proved_end town version_2 records end bytes second judged
-judged-holds town end bytes (records, judged, last, inr (small, first)) = proved_end town version_1 records end bytes first judged
+judged-holds town end bytes (records, judged, last, inl second) = proved_end town version_2 records end bytes second
+judged-holds town end bytes (records, judged, last, inr (small, first)) = proved_end town version_1 records end bytes first

@@ -9,7 +9,7 @@ use Rattle.wrp_sums.proofs.Integers.{linear}
 use Rattle.wrp_town.specs.declared.town.Town.{Town}
 use Rattle.wrp_town.specs.Arcs.{is_legal}
 use Rattle.wrp_rules.specs.Rows.{Row, row_at}
-use Rattle.wrp_rules.specs.Rules.{is_from_one}
+use Rattle.wrp_rules.specs.Ranges.{is_from_one}
 use Rattle.wrp_check.specs.declared.pool.SparseRow.{SparseRow}
 use Rattle.wrp_check.specs.declared.pool.Pool.{Pool}
 use Rattle.wrp_check.specs.Pools.{IsSmallRow, IsRow, Holds, sparse_at, has_rows, combined_coef, combined_side}

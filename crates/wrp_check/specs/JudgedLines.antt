@@ -12,9 +12,10 @@ use Rattle.wrp_rules.specs.declared.rule.Rule.TheVariants as rules
 use Rattle.wrp_rules.specs.Nodes.{Standing}
 use Rattle.wrp_rules.specs.Lists.{agrees}
 use Rattle.wrp_rules.specs.Judged.{judged_rule}
-use Rattle.wrp_grammar.specs.Shapes.{has_shape}
-use Rattle.wrp_proof.specs.Views.{is_later, spelled}
-use Rattle.wrp_proof.specs.Ends.{is_later_end, has_end_shape, spelled_end}
+use Rattle.wrp_grammar.specs.Shapes.{has_shape, has_end_shape}
+use Rattle.wrp_proof.specs.Views.{is_later}
+use Rattle.wrp_grammar.specs.Spelling.{spelled, spelled_end}
+use Rattle.wrp_proof.specs.Ends.{is_later_end}
 
 -- a value, unless a rule is broken
 abbrev pub unless : {X : Type 0} → Option Rule → X → Result X Rule

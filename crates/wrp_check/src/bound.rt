@@ -5,7 +5,7 @@ ghost use Rattle.wrp_sums.specs.Rounding.{ceil_div};
 ghost use Rattle.wrp_town.specs.Arcs.{is_legal};
 ghost use Rattle.wrp_rules.specs.Rows.{Row};
 ghost use Rattle.wrp_rules.specs.Nodes.{Node};
-ghost use Rattle.wrp_rules.specs.Rules.{is_from_one, are_multipliers};
+ghost use Rattle.wrp_rules.specs.Ranges.{is_from_one, are_multipliers};
 ghost use Rattle.wrp_check.specs.Pools.{IsSmallRow, Holds};
 ghost use Rattle.wrp_check.specs.Tables.{AreWithin, most_combined, most_combined_side, reduced_by, covers, bound_or_negative, bound_verdict};
 

@@ -1,7 +1,7 @@
 //! The rows that stand, each as a list of the terms that aren't 0.
 ghost use Rattle.std.specs.Prelude.{◌≡◌, ◌^◌, ◌<◌, ◌≤◌, true, unsigned_abs, length, is_some, OnSome, IfSome};
 ghost use Rattle.std.specs.List.{All};
-ghost use Rattle.wrp_rules.specs.Rules.{are_multipliers};
+ghost use Rattle.wrp_rules.specs.Ranges.{are_multipliers};
 ghost use Rattle.wrp_check.specs.Pools.{most_right_side, AreSmallTerms, IsSmallRow, sparse_at, has_rows};
 ghost use Rattle.wrp_check.specs.Tables.{AreWithin, IsWeighted, Grow, AreCombined, IsCombinedSide};
 

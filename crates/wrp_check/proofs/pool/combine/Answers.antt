@@ -2,7 +2,7 @@ use Rattle.std.proofs.Common.{◌≡◌, ℕ, ◌^◌, true, pos, ◌+ℤ◌, �
 use Rattle.std.specs.List.{list_all}
 use Rattle.std.specs.Int.{w128}
 use Rattle.wrp_sums.proofs.Integers.{linear, casts}
-use Rattle.wrp_rules.specs.Rules.{is_from_one}
+use Rattle.wrp_rules.specs.Ranges.{is_from_one}
 use Rattle.wrp_sums.specs.Sums.{coef_at}
 use Rattle.wrp_check.specs.declared.pool.SparseRow.{SparseRow}
 use Rattle.wrp_check.specs.Pools.{has_rows, combined_coef, combined_side}

@@ -1,6 +1,6 @@
 use Rattle.std.proofs.Common.{◌≡◌, ℕ, ◌+◌, ◌*◌, ◌^◌, ◌≤◌, true, ◌+ℤ◌, unsigned_abs, length}
 use Rattle.std.specs.List.{list_all}
-use Rattle.wrp_rules.specs.Rules.{is_from_one}
+use Rattle.wrp_rules.specs.Ranges.{is_from_one}
 use Rattle.wrp_check.specs.Pools.{has_rows, combined_coef, combined_side}
 use Rattle.wrp_check.specs.Tables.{entry_at, most_combined, most_combined_side}
 use Rattle.wrp_check.proofs.pool.combine.Given as goal
