@@ -17,9 +17,10 @@ use Rattle.wrp_rules.specs.Judged.{judged_rule}
 use Rattle.wrp_check.specs.declared.judge.Judge.{Judge}
 use Rattle.wrp_check.specs.declared.bound.BoundVerdict.{BoundVerdict}
 use Rattle.wrp_check.specs.declared.bound.BoundVerdict.TheVariants as verdicts
-use Rattle.wrp_check.specs.Tables.{has_no_negative_reduced_cost, bound_or_negative, bound_verdict}
+use Rattle.wrp_rules.specs.Judged.{is_dual_feasible}
+use Rattle.wrp_check.specs.Tables.{bound_or_negative, bound_verdict}
 use Rattle.wrp_check.specs.Judging.{IsReady, Stands, record_or_rule, Judges, bound_or_rule}
-use Rattle.wrp_check.specs.JudgedLines.{unless}
+use Rattle.wrp_proof.specs.JudgedLines.{unless}
 
 -- the rules of a bound behind Number and Lonely, as tests
 abbrev pub tried : Bool → Bool → Bool → Bool → Option Rule
@@ -81,7 +82,7 @@ module _ (town : Town) (den : ℕ) (mult : List (ℕ × ℕ)) where
       ≡ valued (root_value bound) (judged_rule town (record { records = records; rows = base_rows town; nodes = with_bound bound (root town) ∷ []; upper = upper }) (Bound 0 den mult))
   root_rule records bound upper unlabelled numbers =
       rw (numbers, unlabelled) (tried_as (list_all (λ q. nat_lt q.0 (length (base_rows town))) mult)
-      (has_no_negative_reduced_cost town (base_rows town) (with_bound bound (root town)) den mult) (root_value bound) bound upper)
+      (is_dual_feasible town (base_rows town) (with_bound bound (root town)) den mult) (root_value bound) bound upper)
 
   -- the same at what stands
   bound_rule : (s : Standing) (judge : Judge) → Stands town s judge → has_number_rules (Bound 0 den mult) ≡ true

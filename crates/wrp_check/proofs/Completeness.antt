@@ -30,8 +30,9 @@ use Rattle.wrp_grammar.proofs.Spacing.{spread}
 use Rattle.wrp_grammar.proofs.PairLists.{index-of_most}
 use Rattle.wrp_proof.proofs.LineLaws.{line-spelled, end_line-spelled}
 use Rattle.wrp_proof.proofs.SpelledLaws.{is_viewed, Tried, passes-tried}
-use Rattle.wrp_check.specs.Streams.{most_bytes, is_one_line}
-use Rattle.wrp_check.specs.JudgedLines.{judged_line, judged_end, is_end}
+use Rattle.wrp_rules.specs.Proofs.{most_bytes}
+use Rattle.wrp_check.specs.Streams.{is_one_line}
+use Rattle.wrp_proof.specs.JudgedLines.{judged_line, judged_end, is_end}
 use Rattle.wrp_check.specs.Verdicts.{Accepted, is_long, limit_of, verdict_on, verdict}
 use Rattle.wrp_check.specs.Accepted.{IsJudgedProof}
 use Rattle.wrp_check.proofs.VerdictSteps.{behind_records, verdict-goes, verdict-accepted, verdict-started}

@@ -2,7 +2,8 @@
 use Rattle.std.proofs.Common.{◌≡◌, ◌+◌, ◌≤◌, [], ◌++◌, arith, length-append}
 use Rattle.wrp_out.specs.Outside.{Input, TookAtMost}
 use Rattle.wrp_out.proofs.OutsideFacts.{took_nothing, took_then}
-use Rattle.wrp_check.specs.Streams.{Buffered, Draws, HasDrawn, drawn, most_bytes}
+use Rattle.wrp_rules.specs.Proofs.{most_bytes}
+use Rattle.wrp_check.specs.Streams.{Buffered, Draws, HasDrawn, drawn}
 
 -- the reader drew no byte
 pub draws_nothing : (old new : Buffered) (source : Input) → drawn new ≡ drawn old → drawn new ≤ most_bytes + 1 → Draws old new source source

@@ -2,7 +2,8 @@
 use Rattle.std.proofs.Common.{inl, inr, ◌⊎◌, ◌≡◌, ℕ, ◌+◌, ◌<◌, Bool, true, false, ◌&&◌, not, ◌==◌, nat_lt, List, [], ◌∷◌, ◌++◌, length, refl, sym, ap, ◌∙◌, subst, arith, length-append}
 use Rattle.std.specs.Prelude.{min}
 use Rattle.std.proofs.lemmas.Bool.{and_parts, and_from, and_left, not-true, not_from_false, or_left, or_right, lt-ltb, eqb-true, ne_eqb}
-use Rattle.wrp_check.specs.Streams.{most_bytes, is_one_line, line_len, PassesLimit}
+use Rattle.wrp_rules.specs.Proofs.{most_bytes}
+use Rattle.wrp_check.specs.Streams.{is_one_line, line_len, PassesLimit}
 use Rattle.wrp_check.specs.Verdicts.{lines_in, is_long}
 use Rattle.wrp_check.proofs.FirstLines.{line_len_fed, line_len_whole}
 

@@ -18,8 +18,9 @@ use Rattle.wrp_check.specs.declared.judge.Judge.{Judge}
 use Rattle.wrp_check.specs.declared.pass.CheckFault.{CheckFault}
 use Rattle.wrp_check.specs.declared.pass.CheckFault.TheVariants as faults
 use Rattle.wrp_check.specs.declared.pass.Progress.{Progress}
-use Rattle.wrp_check.specs.Streams.{Buffered, most_bytes, ahead}
-use Rattle.wrp_check.specs.JudgedLines.{judged_line, judged_end, is_end}
+use Rattle.wrp_rules.specs.Proofs.{most_bytes}
+use Rattle.wrp_check.specs.Streams.{Buffered, ahead}
+use Rattle.wrp_proof.specs.JudgedLines.{judged_line, judged_end, is_end}
 use Rattle.wrp_check.specs.Verdicts.{Verdict, Accepted, Stage, Next, Over, Place, limit_of, is_long, stage_behind, verdict, verdict_on, first_place, FaultIs, FaultOn, AnswerIs}
 use Rattle.wrp_check.specs.Judging.{Stands, Judges}
 use Rattle.wrp_check.specs.Passes.{TakesLine, Unread, Behind, Begins, place_of, GoesOn, Closes, Reaches, Whole}

@@ -26,8 +26,9 @@ use Rattle.wrp_proof.proofs.LineLaws.{spelled-end_line}
 use Rattle.wrp_proof.proofs.SpelledLaws.{spelled_viewed, judged-passes}
 use Rattle.wrp_laws.specs.Ends.{EndHolds}
 use Rattle.wrp_laws.proofs.AllEnds.{proved_end}
-use Rattle.wrp_check.specs.Streams.{most_bytes}
-use Rattle.wrp_check.specs.JudgedLines.{unless, judged_record, judged_line, agreeing_end, judged_end, is_end, is_judged_end}
+use Rattle.wrp_rules.specs.Proofs.{most_bytes}
+use Rattle.wrp_proof.specs.JudgedLines.{unless, judged_record, judged_line, agreeing_end, judged_end, is_end}
+use Rattle.wrp_rules.specs.Judged.{is_judged_end}
 use Rattle.wrp_check.specs.Verdicts.{Verdict, Accepted, Refused, Long, Stage, Next, Over, Place, is_long, is_too_long, limit_of, stage_of, next_stage, last_stage, stage_behind, behind, step, follow, verdict_along, first_place, over_lines, verdict}
 use Rattle.wrp_check.specs.Accepted.{IsJudgedProof}
 use Rattle.wrp_check.proofs.LineCuts.{lines_of}

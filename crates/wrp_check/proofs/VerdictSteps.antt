@@ -7,8 +7,9 @@ use Rattle.wrp_rules.specs.declared.rule.Rule.{Rule}
 use Rattle.wrp_rules.specs.declared.rule.Rule.TheVariants as rules
 use Rattle.wrp_rules.specs.Nodes.{Standing, start, after}
 use Rattle.wrp_rules.specs.Proofs.{version_1}
-use Rattle.wrp_check.specs.Streams.{most_bytes, is_one_line, PassesLimit}
-use Rattle.wrp_check.specs.JudgedLines.{judged_line, judged_end, is_end}
+use Rattle.wrp_rules.specs.Proofs.{most_bytes}
+use Rattle.wrp_check.specs.Streams.{is_one_line, PassesLimit}
+use Rattle.wrp_proof.specs.JudgedLines.{judged_line, judged_end, is_end}
 use Rattle.wrp_check.specs.Verdicts.{Verdict, Accepted, Refused, Long, Stage, First, Next, Over, Place, limit_of, is_long, is_too_long, stage_behind, behind, step, last_step, follow, verdict_along, lines_in, over_lines, verdict_on, first_place, verdict}
 use Rattle.wrp_check.proofs.LineCuts.{lines-more, lines-one, some_lines, FirstLine, first_line, long-more, long-one}
 

@@ -6,7 +6,7 @@ use Rattle.wrp_rules.specs.declared.record.Record.{Record}
 use Rattle.wrp_rules.specs.declared.record.End.{End}
 use Rattle.wrp_rules.specs.Judged.{are_judged}
 use Rattle.wrp_rules.specs.Proofs.{version_1, version_2, IsProofBy}
-use Rattle.wrp_check.specs.JudgedLines.{is_judged_end}
+use Rattle.wrp_rules.specs.Judged.{is_judged_end}
 
 -- the bytes are a proof of the town with this end, which is judged, and so is each record of it;
 -- version 1 is for small towns

@@ -16,7 +16,7 @@ use Rattle.wrp_check.specs.declared.judge.Judge.{Judge}
 use Rattle.wrp_check.specs.declared.bound.BoundVerdict.{BoundVerdict}
 use Rattle.wrp_check.specs.declared.bound.BoundVerdict.TheVariants as verdicts
 use Rattle.wrp_check.specs.Pools.{Holds}
-use Rattle.wrp_check.specs.Verdicts.{unless}
+use Rattle.wrp_proof.specs.JudgedLines.{unless}
 
 -- its own tables fit the town
 pub record IsReady (town : Town) (judge : Judge) : Type 0 where

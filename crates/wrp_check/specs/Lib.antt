@@ -1,5 +1,4 @@
 pub mod Streams
-pub mod JudgedLines
 pub mod Verdicts
 pub mod Accepted
 pub mod Pools

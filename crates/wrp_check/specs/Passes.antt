@@ -9,7 +9,8 @@ use Rattle.wrp_rules.specs.Proofs.{version_2}
 use Rattle.wrp_check.specs.declared.pass.CheckFault.{CheckFault}
 use Rattle.wrp_check.specs.declared.pass.CheckFault.TheVariants as faults
 use Rattle.wrp_check.specs.declared.pass.Progress.{Progress}
-use Rattle.wrp_check.specs.Streams.{Buffered, most_bytes, ahead, is_one_line, PassesLimit}
+use Rattle.wrp_rules.specs.Proofs.{most_bytes}
+use Rattle.wrp_check.specs.Streams.{Buffered, ahead, is_one_line, PassesLimit}
 use Rattle.wrp_check.specs.Verdicts.{Place, Next, Accepted, is_long, verdict, verdict_on, FaultOn}
 use Rattle.wrp_check.specs.Judging.{IsReady, Stands}
 

@@ -2,13 +2,10 @@
 use Rattle.std.specs.Prelude.{◌≡◌, ℕ, ◌+◌, ◌-◌, ◌<◌, ◌≤◌, ◌^◌, ◌⊎◌, ◌↔◌, min, Bool, true, not, ◌==◌, IsTrue, List, [], ◌∷◌, ◌++◌, length, take, drop}
 use Rattle.std.specs.Option.{option_map}
 use Rattle.std.specs.List.{list_all, prefix_len}
+use Rattle.wrp_rules.specs.Proofs.{most_bytes}
 use Rattle.wrp_out.specs.Outside.{Input, Tells, Took}
 use Rattle.wrp_check.specs.declared.lines.Ending.{Ending}
 use Rattle.wrp_check.specs.declared.lines.Ending.TheVariants as endings
-
--- the greatest number of bytes of a proof
-abbrev pub most_bytes : ℕ
-most_bytes = 2 ^ 40
 
 -- ---- the reader
 

@@ -3,11 +3,11 @@
 use Rattle.std.specs.Prelude.{◌≡◌, ℕ, ◌+◌, ◌*◌, ◌^◌, ◌≤◌, Bool, if◌then◌else◌, nat_lt, ℤ, pos, ◌+ℤ◌, ◌-ℤ◌, ◌*ℤ◌, int_le, List, length, slice_index_or, unsigned_abs}
 use Rattle.std.specs.List.{list_all}
 use Rattle.wrp_sums.specs.Sums.{coef_at}
-use Rattle.wrp_sums.specs.Duality.{reduced_cost}
 use Rattle.wrp_town.specs.declared.town.Town.{Town}
 use Rattle.wrp_town.specs.Arcs.{legal_arcs, cost_or_zero}
 use Rattle.wrp_rules.specs.Rows.{Row}
-use Rattle.wrp_rules.specs.Nodes.{Node, program, bound_value}
+use Rattle.wrp_rules.specs.Nodes.{Node, bound_value}
+use Rattle.wrp_rules.specs.Judged.{is_dual_feasible}
 use Rattle.wrp_check.specs.declared.pool.Pool.{Pool}
 use Rattle.wrp_check.specs.declared.bound.BoundVerdict.{BoundVerdict}
 use Rattle.wrp_check.specs.declared.bound.BoundVerdict.TheVariants.{Missing, Negative, Bound}
@@ -60,12 +60,6 @@ abbrev pub covers : Town → ℕ → List ℤ → Bool
 covers town denominator table =
     has_no_negative_cost town (λ arc. reduced_by town denominator arc (entry_at table arc))
 
--- no legal arc has a negative reduced cost in a node
-abbrev pub has_no_negative_reduced_cost : Town → List Row → Node → ℕ → List (ℕ × ℕ) → Bool
-has_no_negative_reduced_cost town rows node denominator multipliers =
-    has_no_negative_cost town
-    (λ arc. reduced_cost (program town rows node) denominator multipliers arc)
-
 -- the bound, where no reduced cost is negative
 abbrev pub bound_or_negative : Bool → ℤ → BoundVerdict
 bound_or_negative none_negative bound = if none_negative then Bound bound else Negative
@@ -75,6 +69,6 @@ bound_or_negative none_negative bound = if none_negative then Bound bound else N
 abbrev pub bound_verdict : Town → List Row → Node → ℕ → List (ℕ × ℕ) → BoundVerdict
 bound_verdict town rows node denominator multipliers =
     if list_all (λ q. nat_lt q.0 (length rows)) multipliers
-    then bound_or_negative (has_no_negative_reduced_cost town rows node denominator multipliers)
+    then bound_or_negative (is_dual_feasible town rows node denominator multipliers)
     (bound_value town rows node denominator multipliers)
     else Missing

@@ -15,8 +15,8 @@ use Rattle.wrp_rules.specs.Nodes.{Standing, start, after}
 use Rattle.wrp_rules.specs.Proofs.{version_1, version_2}
 use Rattle.wrp_check.specs.declared.pass.CheckFault.{CheckFault}
 use Rattle.wrp_check.specs.declared.pass.CheckFault.TheVariants as faults
-use Rattle.wrp_check.specs.Streams.{most_bytes}
-use Rattle.wrp_check.specs.JudgedLines.{judged_line, judged_end, is_end}
+use Rattle.wrp_rules.specs.Proofs.{most_bytes}
+use Rattle.wrp_proof.specs.JudgedLines.{judged_line, judged_end, is_end}
 
 -- the end, the line and its rule, or too long
 pub data Verdict : Type 0 where

@@ -5,7 +5,7 @@ ghost use Rattle.wrp_rules.specs.declared.record.Record.TheVariants.{Tour, Bound
 ghost use Rattle.wrp_rules.specs.Nodes.{Standing, start, is_below};
 ghost use Rattle.wrp_rules.specs.Contents.{has_number_rules};
 ghost use Rattle.wrp_rules.specs.Rules.{int_eq};
-ghost use Rattle.wrp_check.specs.JudgedLines.{judged_line, judged_end};
+ghost use Rattle.wrp_proof.specs.JudgedLines.{judged_line, judged_end};
 ghost use Rattle.wrp_check.specs.Judging.{IsReady, Stands, record_or_rule, Judges, bound_or_rule, is_cheapest, agrees_at};
 
 use crate::bound::{BoundVerdict, judge_bound};

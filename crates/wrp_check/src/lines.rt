@@ -2,7 +2,8 @@
 ghost use Rattle.std.specs.Prelude.{◌≡◌, ◌≢◌, ◌+◌, ◌-◌, ◌<◌, ◌≤◌, ◌^◌, ◌⊎◌, [], length, take, min, position, ◌==◌, IsTrue, IfOk, IfSome, OnErr, IsErrOf};
 ghost use Rattle.wrp_out.specs.Outside.{Tells, Took, FaultRose, ReadFailed};
 ghost use Rattle.wrp_rules.specs.Proofs.{version_2};
-ghost use Rattle.wrp_check.specs.Streams.{Draws, HandsOut, PassesLimit, Peeks, PieceTooLong, TakesPiece, ahead, drawn, line_len, most_bytes};
+ghost use Rattle.wrp_rules.specs.Proofs.{most_bytes};
+ghost use Rattle.wrp_check.specs.Streams.{Draws, HandsOut, PassesLimit, Peeks, PieceTooLong, TakesPiece, ahead, drawn, line_len};
 ghost use Rattle.wrp_check.specs.declared.lines.LinesFault.TheVariants.{TooLong, Read, Memory};
 
 use std::alloc::{AllocError, Global};

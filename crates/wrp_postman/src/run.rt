@@ -3,7 +3,7 @@ ghost use Rattle.std.specs.Prelude.{◌≡◌, ◌+◌, ◌⊎◌, None, Some, I
 ghost use Rattle.std.specs.Option.{option_map};
 ghost use Rattle.std.specs.String.{string_bytes};
 ghost use Rattle.wrp_out.specs.Outside.{Input, TookAtMost};
-ghost use Rattle.wrp_check.specs.Streams.{most_bytes};
+ghost use Rattle.wrp_rules.specs.Proofs.{most_bytes};
 ghost use Rattle.wrp_postman.specs.declared.status.Status.TheVariants as answers;
 ghost use Rattle.wrp_postman.specs.Words.{command_of};
 ghost use Rattle.wrp_postman.specs.Inputs.{Stops};

@@ -11,7 +11,7 @@ use Rattle.wrp_rules.specs.Nodes.{Standing, node_at, bound_value}
 use Rattle.wrp_rules.specs.Lines.{line_of}
 use Rattle.wrp_rules.specs.Rules.{is_alone, node_is_there, rows_are_there, node_is_open, first_broken, rules_of, broken_rule}
 use Rattle.wrp_rules.specs.Contents.{has_number_rules}
-use Rattle.wrp_rules.specs.Judged.{has_plain_costs, is_judged, judged_rule}
+use Rattle.wrp_rules.specs.Judged.{is_dual_feasible_at, is_judged, judged_rule}
 use Rattle.wrp_proof.specs.Views.{is_later, IsLineOf}
 use Rattle.wrp_grammar.specs.Spelling.{spelled}
 use Rattle.wrp_proof.proofs.LineLaws.{spelled-line}
@@ -93,7 +93,7 @@ pub record Passes (town : Town) (s : Standing) (item : Record) : Type 0 where
 
 bound-passes : (town : Town) (s : Standing) (node den : ℕ) (mult : List (ℕ × ℕ)) → judged_rule town s (Bound node den mult) ≡ None → Passes town s (Bound node den mult)
 bound-passes town s node den mult h =
-    let both = without (before_later town s node den mult) rules.Later (has_plain_costs town s node den mult) (behind_later town s node den mult) h in
+    let both = without (before_later town s node den mult) rules.Later (is_dual_feasible_at town s node den mult) (behind_later town s node den mult) h in
     record { unbroken = both.1; judged = both.0 }
 
 pub judged-passes : (town : Town) (s : Standing) (item : Record) → is_viewed item ≡ true → judged_rule town s item ≡ None → Passes town s item
@@ -107,9 +107,9 @@ pub record Tried (town : Town) (s : Standing) (item : Record) : Type 0 where
   pub viewed : is_viewed item ≡ true
   pub numbers : has_number_rules item ≡ true
 
-bound-tried : (town : Town) (s : Standing) (node den : ℕ) (mult : List (ℕ × ℕ)) → broken_rule town s (Bound node den mult) ≡ None → has_plain_costs town s node den mult ≡ true → Tried town s (Bound node den mult)
+bound-tried : (town : Town) (s : Standing) (node den : ℕ) (mult : List (ℕ × ℕ)) → broken_rule town s (Bound node den mult) ≡ None → is_dual_feasible_at town s node den mult ≡ true → Tried town s (Bound node den mult)
 bound-tried town s node den mult h plain = record {
-  unbroken = among (before_later town s node den mult) rules.Later (has_plain_costs town s node den mult) (behind_later town s node den mult) plain h;
+  unbroken = among (before_later town s node den mult) rules.Later (is_dual_feasible_at town s node den mult) (behind_later town s node den mult) plain h;
   viewed = refl;
   numbers = numbers-kept town s (Bound node den mult) h;
 }

@@ -1,3 +1,4 @@
 pub mod Kinds
 pub mod Views
 pub mod Ends
+pub mod JudgedLines

@@ -76,10 +76,7 @@ empty_value town rows node mult = dual_value (free_program town rows node) 1 mul
 abbrev pub node_at : Town → Standing → ℕ → Node
 node_at town s i = slice_index_or s.nodes i (root town)
 
--- the problem of the node of this number, and the bound of its multipliers
-abbrev pub program_at : Town → Standing → ℕ → Program
-program_at town s i = program town s.rows (node_at town s i)
-
+-- the bound that multipliers give the node of this number
 abbrev pub bound_at : Town → Standing → ℕ → ℕ → List (ℕ × ℕ) → ℤ
 bound_at town s i den mult = bound_value town s.rows (node_at town s i) den mult
 

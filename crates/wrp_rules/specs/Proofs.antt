@@ -32,6 +32,10 @@ record_lines records = flat_map (λ item. ended (line_of item)) records
 abbrev pub proof_text : Version → List Record → End → List ℕ
 proof_text version records end = ended version.line ++ record_lines records ++ ended (end_line end)
 
+-- the greatest number of bytes of a proof
+abbrev pub most_bytes : ℕ
+most_bytes = 2 ^ 40
+
 -- the bytes prove the end by these records
 pub record IsProofBy
     (town : Town) (version : Version) (records : List Record) (end : End) (bytes : List ℕ)
@@ -40,7 +44,7 @@ pub record IsProofBy
   pub valid : is_valid town records ≡ true
   pub agreeing : agrees (standing town records) end ≡ true
   pub lines : AllByRecursion (λ item. length (line_of item) ≤ version.limit) records
-  pub whole : length bytes ≤ 2 ^ 40
+  pub whole : length bytes ≤ most_bytes
 
 -- the bytes are a proof of the town with this end; version 1 is for small towns
 abbrev pub IsProof : Town → End → List ℕ → Type 0

@@ -1,5 +1,6 @@
 use Rattle.std.proofs.Common.{◌+◌, ◌-◌}
-use Rattle.wrp_check.specs.Streams.{HasDrawn, most_bytes}
+use Rattle.wrp_rules.specs.Proofs.{most_bytes}
+use Rattle.wrp_check.specs.Streams.{HasDrawn}
 use Rattle.wrp_check.specs.Passes.{IsUnderWay, Reaches}
 use Rattle.wrp_check.proofs.pass.judge_proof.Given as goal
 

@@ -1,6 +1,7 @@
 use Rattle.std.proofs.Common.{◌≡◌, ◌+◌, ◌-◌, ◌≤◌, length, true}
 use Rattle.wrp_out.specs.Outside.{Took}
-use Rattle.wrp_check.specs.Streams.{Draws, ahead, is_one_line, most_bytes}
+use Rattle.wrp_rules.specs.Proofs.{most_bytes}
+use Rattle.wrp_check.specs.Streams.{Draws, ahead, is_one_line}
 use Rattle.wrp_check.proofs.lines.Lines.next.Given as goal
 
 abbrev pub invariant-loop-self : goal.invariant-loop-self

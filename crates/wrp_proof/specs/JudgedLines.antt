@@ -6,7 +6,6 @@ use Rattle.std.specs.List.{starts_with}
 use Rattle.wrp_town.specs.declared.town.Town.{Town}
 use Rattle.wrp_rules.specs.declared.record.Record.{Record}
 use Rattle.wrp_rules.specs.declared.record.End.{End}
-use Rattle.wrp_rules.specs.declared.record.End.TheVariants.{Optimal}
 use Rattle.wrp_rules.specs.declared.rule.Rule.{Rule}
 use Rattle.wrp_rules.specs.declared.rule.Rule.TheVariants as rules
 use Rattle.wrp_rules.specs.Nodes.{Standing}
@@ -45,8 +44,3 @@ judged_end s line =
 -- a line that begins with `end` is read as an end line
 abbrev pub is_end : List ℕ → Bool
 is_end line = starts_with nat_eq line (codes "end")
-
--- the ends that the checker judges so far
-abbrev pub is_judged_end : End → Bool
-is_judged_end (Optimal cost) = true
-is_judged_end end = false
