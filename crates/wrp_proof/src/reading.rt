@@ -193,7 +193,12 @@ fn view_of_pairs(kind: Kind, numbers: Leading, pairs: PairsOf<'_>) -> Option<Vie
     }
 }
 
-fn view_of_lists<'a>(kind: Kind, numbers: Leading, labels: NumbersOf<'a>, streets: NumbersOf<'a>) -> Option<View<'a>>
+fn view_of_lists<'a>(
+    kind: Kind,
+    numbers: Leading,
+    labels: NumbersOf<'a>,
+    streets: NumbersOf<'a>,
+) -> Option<View<'a>>
     requires { keeps_number_rules (content_with kind numbers (TwoLists labels streets)) ≡ true }
     ensures some { is_some result ≡ true }
     ensures content { IfSome result (λ v. content_of (record_of v) ≡ content_with kind numbers (TwoLists labels.entry streets.entry)) }
