@@ -137,4 +137,3 @@ number-bad numbers ranges range tail left number others same e wrong = subst (λ
   bad = λ more. ap (λ r. r && keeps_rules ranges tail more) wrong;
   place = sym (ap (λ d. 0 + 1 + cond ((d && is_in_range range (number_of (first_half number ++ codes ":1"))) && keeps_rules ranges tail []) (length number - length (second_half number)) 0) (colon-number (first_half number)));
 })
-

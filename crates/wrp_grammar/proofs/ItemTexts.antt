@@ -1,5 +1,5 @@
 -- The texts of steps, numbers and pairs, and of lists of them.
-use Rattle.std.proofs.Common.{arith, ◌≡◌, ℕ, ◌-◌, ◌<◌, ◌≤◌, ◌^◌, Bool, true, false, cond, ◌&&◌, not, ◌==◌, nat_lt, nat_le, List, [], ◌∷◌, ◌++◌, map, length, refl, sym, ap, ◌∙◌}
+use Rattle.std.proofs.Common.{arith, ◌≡◌, ℕ, ◌-◌, ◌<◌, ◌^◌, Bool, true, false, cond, ◌&&◌, not, ◌==◌, nat_lt, nat_le, List, [], ◌∷◌, map, length, refl, sym, ap, ◌∙◌}
 use Rattle.std.proofs.lemmas.Bool.{and_parts, and_from, ltb-true, leb-true, lt-ltb}
 use Rattle.std.proofs.lemmas.List.Folds.{list_all-append}
 use Rattle.std.proofs.lemmas.List.Splits.{join_with_byte-slice_split}
@@ -10,7 +10,7 @@ use Rattle.wrp_rules.specs.declared.layout.Range.{Range}
 use Rattle.wrp_rules.specs.declared.layout.Range.TheVariants.{Count, Index, FromOne}
 use Rattle.wrp_rules.specs.Ranges.{is_index, is_count, is_from_one, is_in_range, is_ascending, is_set, are_pairs, are_multipliers}
 use Rattle.wrp_rules.specs.Lines.{step_text, pair_text}
-use Rattle.wrp_grammar.specs.Parts.{parts_of, number_of, numbers_of, is_number, is_index_part, are_set_parts, is_sign, sign_of, street_part, is_step, step_of, first_half, second_half, is_pair, pair_of, are_multiplier_parts, are_pair_parts}
+use Rattle.wrp_grammar.specs.Parts.{parts_of, number_of, numbers_of, is_number, is_index_part, are_set_parts, is_sign, sign_of, street_part, is_step, step_of, is_pair, pair_of, are_multiplier_parts, are_pair_parts}
 use Rattle.wrp_grammar.specs.Numbers.{is_range_part}
 use Rattle.wrp_grammar.proofs.Written.{number-text, text-number, step-text, text-step, step_text-sign}
 use Rattle.wrp_grammar.proofs.WrittenPairs.{number_digits, pair-text, text-pair, pair_text-colon}

@@ -21,4 +21,6 @@ pub mod LeftFronts
 pub mod LineFronts
 pub mod FirstNumbers
 pub mod LineNumbers
+pub mod PlaceLaws
 pub mod PairNumbers
+pub mod KindLines

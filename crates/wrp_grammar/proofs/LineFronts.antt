@@ -4,7 +4,7 @@ use Rattle.std.proofs.Math.Bool.{or-true}
 use Rattle.std.proofs.lemmas.Bool.{and_from, cases_lt, eq-eqb, ne_eqb, false≢true}
 use Rattle.std.proofs.lemmas.List.{take_all}
 use Rattle.std.proofs.lemmas.List.Folds.{list_any_more}
-use Rattle.std.specs.List.{list_any, starts_with}
+use Rattle.std.specs.List.{starts_with}
 use Rattle.wrp_rules.specs.declared.layout.Kind.{Kind}
 use Rattle.wrp_rules.specs.declared.layout.Range.{Range}
 use Rattle.wrp_rules.specs.declared.layout.Tail.{Tail}
@@ -13,7 +13,7 @@ use Rattle.wrp_grammar.specs.Fronts.{IsLongestFront, is_left}
 use Rattle.wrp_grammar.specs.Parts.{is_spaced, parts_of}
 use Rattle.wrp_grammar.specs.Shapes.{has_parts_shape, goes_on_in, is_in_layout, is_of_kinds}
 use Rattle.wrp_grammar.proofs.Fronts.{front-at, front-same, front-cons, front-end, front-stop}
-use Rattle.wrp_grammar.proofs.LeftFronts.{HasParts, layout-parts}
+use Rattle.wrp_grammar.proofs.LeftFronts.{layout-parts}
 use Rattle.wrp_grammar.proofs.Spacing.{spread, parts_of-spread}
 
 -- a word, and behind it a text of a shape

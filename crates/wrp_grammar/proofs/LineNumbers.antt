@@ -1,11 +1,11 @@
 -- The first number of a line of some kinds that breaks a rule.
-use Rattle.std.proofs.Common.{arith, ◌≡◌, ℕ, ◌+◌, ◌<◌, Bool, true, false, ◌&&◌, ◌||◌, nat_eq, get_or, List, ◌++◌, length, take, drop, refl, sym, ap, ◌∙◌, subst}
-use Rattle.std.proofs.lemmas.Bool.{and_parts, cases_Bool, false≢true}
+use Rattle.std.proofs.Common.{◌≡◌, ℕ, ◌+◌, ◌<◌, Bool, true, false, ◌&&◌, ◌||◌, nat_eq, get_or, List, ◌++◌, length, take, drop, refl, sym, ap, ◌∙◌, subst}
+use Rattle.std.proofs.lemmas.Bool.{and_parts, false≢true}
 use Rattle.std.proofs.lemmas.Bool.Decides.{Decides-eqb}
 use Rattle.std.proofs.lemmas.List.Elements.{Contains-get_or}
 use Rattle.std.proofs.lemmas.List.Folds.{list_any_more, list_any_at}
 use Rattle.std.proofs.lemmas.Slice.Eq.{starts_is}
-use Rattle.std.specs.List.{list_any, starts_with}
+use Rattle.std.specs.List.{starts_with}
 use Rattle.wrp_rules.specs.declared.layout.Kind.{Kind}
 use Rattle.wrp_rules.specs.declared.layout.Range.{Range}
 use Rattle.wrp_rules.specs.declared.layout.Tail.{Tail}
@@ -36,10 +36,12 @@ kind-first kind line left numbers tail behind at en et e shape wrong first place
 
     broken : keeps_rules numbers tail (parts_of left) ≡ false
     broken =
+        let both = and_parts (starts_with nat_eq line l.word) (goes_on_in l (drop (length l.word) line)) shape in
+        let right = keeps_rules l.numbers l.tail (parts_of (drop (length l.word) line)) in
         ap (λ ns. keeps_rules ns tail (parts_of left)) en
         ∙ ap (λ t. keeps_rules l.numbers t (parts_of left)) et
         ∙ ap (λ t. keeps_rules l.numbers l.tail (parts_of t)) e
-        ∙ sym (ap (λ s. s && keeps_rules l.numbers l.tail (parts_of (drop (length l.word) line))) shape)
+        ∙ sym (ap (λ s. s && (goes_on_in l (drop (length l.word) line) && right)) both.0 ∙ ap (λ s. s && right) both.1)
         ∙ wrong
 
 -- one of the kinds, where none before it is the line's

@@ -1,20 +1,14 @@
 -- Lists of pairs, and the parts that spell them.
-use Rattle.std.proofs.Common.{arith, false, Some, None, ◌≡◌, ℕ, ◌+◌, ◌-◌, ◌<◌, ◌≤◌, ◌^◌, Bool, true, cond, ◌&&◌, not, ◌==◌, nat_lt, nat_le, List, [], ◌∷◌, map, length, refl, sym, ap, ◌∙◌}
+use Rattle.std.proofs.Common.{arith, false, Some, None, ◌≡◌, ℕ, ◌+◌, ◌-◌, ◌<◌, ◌≤◌, ◌^◌, Bool, true, cond, ◌&&◌, nat_lt, nat_le, List, [], ◌∷◌, map, length, refl, sym, ap, ◌∙◌}
 use Rattle.std.proofs.Math.Bool.{and-true}
 use Rattle.std.proofs.lemmas.Bool.{and_left, and_parts, and_from, ltb-true, leb-true, lt-ltb, le-leb}
 use Rattle.std.proofs.lemmas.List.{length-map}
-use Rattle.std.proofs.lemmas.List.Folds.{list_all-append}
 use Rattle.std.proofs.lemmas.List.Sums.{count_by-le-length}
-use Rattle.std.proofs.lemmas.List.Splits.{join_with_byte-slice_split, length-slice_split}
-use Rattle.std.specs.Fmt.{decimal}
-use Rattle.std.specs.List.{list_all, join_with_byte}
-use Rattle.wrp_rules.specs.Lines.{pair_text}
+use Rattle.std.proofs.lemmas.List.Splits.{length-slice_split}
+use Rattle.std.specs.List.{list_all}
 use Rattle.wrp_grammar.specs.Parts.{parts_of, is_number, number_of, first_half, second_half, is_pair, pair_of, is_space, are_multiplier_parts, are_pair_parts}
 use Rattle.wrp_rules.specs.Ranges.{is_index, is_from_one, is_ascending, are_pairs}
 use Rattle.wrp_grammar.proofs.Guards.{guard-some, guard-none}
-use Rattle.wrp_grammar.proofs.Written.{text-number}
-use Rattle.wrp_grammar.proofs.WrittenPairs.{number_digits, pair-text, text-pair}
-use Rattle.wrp_grammar.proofs.Spacing.{is_solid, digits-solid}
 
 -- each of a list is above the numbers below it
 pub raised : (x : ℕ) (ys : List ℕ) → list_all (nat_le (x + 1)) ys ≡ true → list_all (nat_lt x) ys ≡ true

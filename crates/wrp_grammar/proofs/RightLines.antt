@@ -1,14 +1,14 @@
 -- What is in its shape and keeps its rules, as a reader tries it.
-use Rattle.std.proofs.Common.{inl, inr, Option, Some, None, ◌≡◌, ℕ, Bool, true, false, ◌&&◌, ◌||◌, cond, not, nat_le, nat_lt, ◌==◌, List, [], ◌∷◌, length, take, drop, refl, sym, ap, ◌∙◌}
+use Rattle.std.proofs.Common.{inl, inr, Option, Some, None, ◌≡◌, ℕ, Bool, true, false, ◌&&◌, ◌||◌, cond, List, [], ◌∷◌, length, take, drop, refl, sym, ap, ◌∙◌}
 use Rattle.std.proofs.Math.Bool.{and-false}
-use Rattle.std.proofs.lemmas.Bool.{and_parts, and_from, cases_Bool, false≢true}
+use Rattle.std.proofs.lemmas.Bool.{and_parts, and_from, cases_Bool}
 use Rattle.std.specs.List.{list_all, list_any, before_first, after_first}
 use Rattle.wrp_rules.specs.declared.layout.Range.{Range}
 use Rattle.wrp_rules.specs.declared.layout.Tail.{Tail}
 use Rattle.wrp_rules.specs.declared.layout.Tail.TheVariants as tails
-use Rattle.wrp_rules.specs.Ranges.{is_index, is_from_one, is_in_range, is_set, are_pairs, are_multipliers}
-use Rattle.wrp_grammar.specs.Parts.{parts_of, is_spaced, number_of, numbers_of, is_digits, is_number, is_index_part, are_set_parts, is_sign, sign_of, street_part, is_step_shape, is_step, first_half, second_half, is_pair_shape, is_pair, pair_of, are_multiplier_parts, are_pair_parts}
-use Rattle.wrp_grammar.specs.Shapes.{is_slash, is_nothing, has_labels_shape, has_tail_shape, has_parts_shape}
+use Rattle.wrp_rules.specs.Ranges.{is_index, is_from_one, is_in_range, is_set}
+use Rattle.wrp_grammar.specs.Parts.{parts_of, is_spaced, number_of, numbers_of, is_digits, is_number, is_index_part, are_set_parts, is_sign, sign_of, street_part, is_step_shape, is_step, first_half, second_half, is_pair_shape, is_pair, are_multiplier_parts, are_pair_parts}
+use Rattle.wrp_grammar.specs.Shapes.{is_slash, has_labels_shape, has_tail_shape, has_parts_shape}
 use Rattle.wrp_grammar.specs.Numbers.{is_range_part, tail_keeps_rules, keeps_rules}
 use Rattle.std.specs.Option.{option_map}
 use Rattle.wrp_rules.specs.Contents.{Items, TwoLists, content}
@@ -16,7 +16,7 @@ use Rattle.wrp_rules.specs.declared.layout.Kind.{Kind}
 use Rattle.wrp_rules.specs.Layouts.{layout_of}
 use Rattle.wrp_grammar.specs.Spelling.{items_of, are_leading, content_of_parts, content_behind}
 use Rattle.wrp_grammar.specs.Reading.{items_in}
-use Rattle.wrp_grammar.proofs.Guards.{guard-some, guard-none}
+use Rattle.wrp_grammar.proofs.Guards.{guard-some}
 use Rattle.wrp_grammar.proofs.Positions.{before-here, after-here, before-more, after-more}
 use Rattle.wrp_grammar.proofs.LabelLists.{is_the_slash, no_slash}
 use Rattle.wrp_grammar.proofs.TailTexts.{is_right_tail, are_labels}

@@ -1,15 +1,10 @@
 -- Lists of numbers and sets, and the parts that spell them.
-use Rattle.std.proofs.Common.{arith, ◌≡◌, ℕ, ◌+◌, ◌-◌, ◌<◌, ◌^◌, Bool, true, ◌&&◌, nat_lt, nat_le, List, [], ◌∷◌, map, refl, sym, ap, ◌∙◌}
-use Rattle.std.proofs.lemmas.Bool.{and_parts, and_from, ltb-true, leb-true}
-use Rattle.std.proofs.lemmas.List.Splits.{join_with_byte-slice_split}
-use Rattle.std.specs.Fmt.{decimal}
-use Rattle.std.specs.List.{list_all, join_with_byte}
-use Rattle.wrp_grammar.specs.Parts.{parts_of, is_number, number_of, numbers_of, is_index_part, are_set_parts}
+use Rattle.std.proofs.Common.{◌≡◌, ℕ, ◌+◌, ◌-◌, ◌^◌, Bool, true, ◌&&◌, nat_lt, nat_le, List, [], ◌∷◌, refl}
+use Rattle.std.proofs.lemmas.Bool.{and_parts, and_from, leb-true}
+use Rattle.std.specs.List.{list_all}
+use Rattle.wrp_grammar.specs.Parts.{is_number, number_of, numbers_of, is_index_part, are_set_parts}
 use Rattle.wrp_rules.specs.Ranges.{is_index, is_set}
-use Rattle.wrp_grammar.proofs.Written.{number-text, text-number}
-use Rattle.wrp_grammar.proofs.WrittenPairs.{number_digits}
-use Rattle.wrp_grammar.proofs.Spacing.{is_solid, digits-solid}
-use Rattle.wrp_grammar.proofs.PairLists.{raised, lowered, above, all_from_zero, index-most, ascending-index, same_tests}
+use Rattle.wrp_grammar.proofs.PairLists.{raised, lowered, above, all_from_zero, index-most, same_tests}
 
 -- numbers that go up from one that is low or more
 abbrev pub rise : ℕ → List (List ℕ) → Bool

@@ -1,5 +1,5 @@
 -- What follows the leading numbers of a line, and the parts that spell it, for each tail.
-use Rattle.std.proofs.Common.{arith, codes, ◌≡◌, ℕ, ◌<◌, ◌≤◌, ◌^◌, Bool, true, false, ◌&&◌, ◌||◌, nat_lt, nat_le, List, [], ◌∷◌, ◌++◌, map, refl, sym, ap, ◌∙◌}
+use Rattle.std.proofs.Common.{arith, codes, ◌≡◌, ℕ, ◌<◌, ◌≤◌, ◌^◌, Bool, true, ◌&&◌, nat_lt, nat_le, List, [], ◌∷◌, ◌++◌, map, refl, sym, ap, ◌∙◌}
 use Rattle.std.proofs.lemmas.Bool.{and_parts, and_from, ltb-true, leb-true, false≢true}
 use Rattle.std.proofs.lemmas.List.Folds.{list_all-append}
 use Rattle.std.specs.Fmt.{decimal}
@@ -8,9 +8,9 @@ use Rattle.wrp_town.specs.declared.street.Step.{Step}
 use Rattle.wrp_rules.specs.declared.layout.Tail.{Tail}
 use Rattle.wrp_rules.specs.declared.layout.Tail.TheVariants as tails
 use Rattle.wrp_rules.specs.Ranges.{is_index, is_set, are_pairs, are_multipliers}
-use Rattle.wrp_rules.specs.Lines.{step_text, pair_text, item_parts}
+use Rattle.wrp_rules.specs.Lines.{item_parts}
 use Rattle.wrp_rules.specs.Contents.{Items, NoItems, Steps, Numbers, Pairs, TwoLists, keep_rules}
-use Rattle.wrp_grammar.specs.Parts.{numbers_of, is_index_part, are_set_parts, is_step, step_of, pair_of, are_multiplier_parts, are_pair_parts}
+use Rattle.wrp_grammar.specs.Parts.{numbers_of, is_index_part, are_set_parts, is_step, are_multiplier_parts, are_pair_parts}
 use Rattle.wrp_grammar.specs.Shapes.{is_slash, is_nothing}
 use Rattle.wrp_grammar.specs.Spelling.{items_of}
 use Rattle.wrp_grammar.specs.Reading.{is_small_tail}

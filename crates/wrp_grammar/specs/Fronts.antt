@@ -11,4 +11,13 @@ pub record IsLongestFront (shape : List ℕ → Bool) (text : List ℕ) (at : �
   pub within : at ≤ length text
   pub more : List ℕ
   pub begins : shape (take at text ++ more) ≡ true
-  pub longest : (n : ℕ) (others : List ℕ) → n ≤ length text → shape (take n text ++ others) ≡ true → n ≤ at
+  pub longest :
+      (n : ℕ) (others : List ℕ) → n ≤ length text → shape (take n text ++ others) ≡ true → n ≤ at
+
+-- the longest front of what is left of a line, by the shape of its parts
+abbrev pub IsLeftFront : (List (List ℕ) → Bool) → List ℕ → ℕ → Type 0
+IsLeftFront shape left at = IsLongestFront (is_left shape) left at
+
+-- no two places are like this
+abbrev pub IsOnePlace : (ℕ → Type 0) → Type 0
+IsOnePlace is_place = (one other : ℕ) → is_place one → is_place other → one ≡ other

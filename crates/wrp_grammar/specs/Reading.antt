@@ -1,5 +1,6 @@
 -- What a reader of a line holds.
 use Rattle.std.specs.Prelude.{ℕ, ◌^◌, Bool, true, nat_lt, nat_le, ◌&&◌, if◌then◌else◌, List, [], ◌∷◌, take, length, Option, None, Some}
+use Rattle.wrp_rules.specs.declared.layout.Kind.{Kind}
 use Rattle.wrp_rules.specs.declared.layout.Range.{Range}
 use Rattle.wrp_rules.specs.declared.layout.Tail.{Tail}
 use Rattle.wrp_rules.specs.declared.layout.Tail.TheVariants as tails
@@ -24,8 +25,11 @@ items_held (lent.Numbers numbers) = Numbers numbers
 items_held (lent.Pairs pairs) = Pairs pairs
 items_held (lent.TwoLists first second) = TwoLists first second
 
+abbrev pub content_with : Kind → Leading → Items → Content
+content_with kind numbers items = content kind (numbers_held (layout_of kind).numbers numbers) items
+
 abbrev pub content_held : ContentOf → Content
-content_held c = content c.kind (numbers_held (layout_of c.kind).numbers c.numbers) (items_held c.items)
+content_held c = content_with c.kind c.numbers (items_held c.items)
 
 -- a tail whose pairs a list of pairs can hold
 abbrev pub is_small_tail : Tail → Bool

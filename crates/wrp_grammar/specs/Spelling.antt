@@ -10,11 +10,11 @@ use Rattle.wrp_rules.specs.declared.record.Record.{Record}
 use Rattle.wrp_rules.specs.declared.record.Record.TheVariants.{Tour, Conn, Odd, Round, Kc, Bound, Empty, Apart, Point, Blind, Split, Labels}
 use Rattle.wrp_rules.specs.declared.record.End.{End}
 use Rattle.wrp_rules.specs.declared.record.End.TheVariants.{Optimal, Infeasible, Unfinished}
-use Rattle.wrp_rules.specs.Layouts.{Layout, layout_of, record_kinds, end_kinds}
+use Rattle.wrp_rules.specs.Layouts.{layout_of, record_kinds, end_kinds}
 use Rattle.wrp_rules.specs.Contents.{Items, NoItems, Steps, Numbers, Pairs, TwoLists, Content, content}
 use Rattle.wrp_grammar.specs.Parts.{parts_of, numbers_of, step_of, pair_of}
-use Rattle.wrp_grammar.specs.Shapes.{is_slash, goes_on_in}
-use Rattle.wrp_grammar.specs.Numbers.{is_range_part, keeps_rules}
+use Rattle.wrp_grammar.specs.Shapes.{is_slash}
+use Rattle.wrp_grammar.specs.Numbers.{is_range_part, is_right_behind}
 
 -- the items that parts spell
 abbrev pub items_of : Tail → List (List ℕ) → Items
@@ -37,11 +37,6 @@ abbrev pub content_of_parts : Kind → List (List ℕ) → Content
 content_of_parts kind parts =
     content kind (numbers_of (take (length (layout_of kind).numbers) parts))
     (items_of (layout_of kind).tail (drop (length (layout_of kind).numbers) parts))
-
--- what is left of a line behind its word is in its layout, and its numbers keep the rules
-abbrev pub is_right_behind : Kind → List ℕ → Bool
-is_right_behind kind left =
-    goes_on_in (layout_of kind) left && keeps_rules (layout_of kind).numbers (layout_of kind).tail (parts_of left)
 
 -- what stands behind the word of a line of this kind
 abbrev pub content_behind : Kind → List ℕ → Option Content

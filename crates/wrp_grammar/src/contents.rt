@@ -12,7 +12,7 @@ use crate::labels::label_halves;
 use wrp_rules::layout_of;
 use crate::numbers::NumbersOf;
 use crate::parts::{PairsOf, StepsOf};
-use crate::text::{read_count, read_from_one, read_index, split_part};
+use crate::text::{goes_on_with_space, read_count, read_from_one, read_index, split_part};
 use wrp_rules::{Kind, Range, Tail};
 
 /// The leading numbers of a line. Those that its layout doesn't have are 0.
@@ -43,9 +43,11 @@ pub struct ContentOf<'a> {
 
 /// What is spelled behind the word of a line of this kind.
 pub fn read_content(kind: Kind, left: &[u8]) -> Option<ContentOf<'_>>
-    requires { is_spaced left.now ≡ true }
     ensures { option_map content_held result ≡ content_behind kind left.now }
 {
+    if !goes_on_with_space(left) {
+        return None;
+    }
     let layout = layout_of(kind);
     let (numbers, left) = read_numbers(layout.numbers, left)?;
     let items = read_items(layout.tail, left)?;

@@ -1,15 +1,14 @@
 //! Where a line leaves the shapes of some kinds of lines, and where its first wrong number stands.
 ghost use Rattle.std.specs.Prelude.{◌≡◌, ◌<◌, ◌≤◌, not, true, false, is_some, length, slice_index, ℕ, IfSome};
 ghost use Rattle.wrp_rules.specs.Layouts.{layout_of as layout_of_kind};
-ghost use Rattle.wrp_grammar.specs.Fronts.{IsLongestFront, is_left};
+ghost use Rattle.wrp_grammar.specs.Fronts.{IsLongestFront, IsLeftFront, is_left};
 ghost use Rattle.wrp_grammar.specs.Shapes.{has_parts_shape, is_in_layout, is_of_kinds};
 ghost use Rattle.wrp_grammar.specs.Numbers.{is_right_in, is_right_line, IsFirstBadOf, IsFirstBadNumber};
 
-use wrp_rules::layout_of;
 use crate::place::parts_form;
 use crate::ranges::parts_number;
 use crate::text::goes_on_with_space;
-use wrp_rules::{Kind, Range, Tail};
+use wrp_rules::{Kind, Range, Tail, layout_of};
 
 /// The place at which a line leaves the shapes of these kinds; `None` where it is in one of them.
 pub fn form_place(kinds: &[Kind], line: &[u8]) -> Option<usize>
@@ -46,8 +45,8 @@ pub fn number_place(kinds: &[Kind], line: &[u8]) -> usize
 /// The place at which a line leaves the shape of a kind.
 fn kind_form(kind: Kind, line: &[u8]) -> Option<usize>
     ensures broken { is_some result ≡ not (is_in_layout (layout_of_kind kind) line.now) }
-    ensures within { IfSome result (λ at. at ≤ length line.now) }
-    ensures front { IfSome result (λ at. IsLongestFront (is_in_layout (layout_of_kind kind)) line.now at) }
+    ensures front { IfSome result
+        (λ at. IsLongestFront (is_in_layout (layout_of_kind kind)) line.now at) }
 {
     let layout = layout_of(kind);
     let shared = shared(line, layout.word);
@@ -63,8 +62,8 @@ fn kind_form(kind: Kind, line: &[u8]) -> Option<usize>
 /// The place at which what is left of a line behind its word leaves the shape of its kind.
 fn left_form(left: &[u8], numbers: &[Range], tail: Tail) -> Option<usize>
     ensures broken { is_some result ≡ not (is_left (has_parts_shape numbers.now tail) left.now) }
-    ensures within { IfSome result (λ at. at ≤ length left.now) }
-    ensures front { IfSome result (λ at. IsLongestFront (is_left (has_parts_shape numbers.now tail)) left.now at) }
+    ensures front { IfSome result
+        (λ at. IsLeftFront (has_parts_shape numbers.now tail) left.now at) }
 {
     if goes_on_with_space(left) {
         parts_form(left, numbers, tail)
@@ -78,7 +77,8 @@ fn shared(line: &[u8], text: &[u8]) -> usize
     ensures line { result ≤ length line.now }
     ensures text { result ≤ length text.now }
     ensures same { (k : ℕ) → k < result → slice_index line.now k ≡ slice_index text.now k }
-    ensures longest { result < length text.now → result < length line.now → slice_index line.now result ≡ slice_index text.now result → ⊥ }
+    ensures longest { result < length text.now → result < length line.now
+        → slice_index line.now result ≡ slice_index text.now result → ⊥ }
 {
     for (place, byte) in text.iter().enumerate() {
         if place >= line.len() || line[place] != *byte {

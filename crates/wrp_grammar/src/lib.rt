@@ -5,6 +5,7 @@
 mod contents;
 mod faults;
 mod labels;
+mod laws;
 mod numbers;
 mod parts;
 mod place;
@@ -13,6 +14,7 @@ mod text;
 
 pub use contents::{ContentOf, ItemsOf, Leading, read_content};
 pub use faults::{form_place, number_place};
+pub use laws::{place_laws, word_laws};
 pub use numbers::NumbersOf;
 pub use parts::{PairsOf, StepsOf};
 pub use text::goes_on_with_space;

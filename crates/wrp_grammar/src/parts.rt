@@ -14,7 +14,7 @@ use wrp_town::Step;
 const MOST_SECOND: u128 = 1 << 72;
 
 /// A record has at most as many multipliers.
-const MOST_MULTIPLIERS: usize = 4096;
+pub const MOST_MULTIPLIERS: usize = 4096;
 
 /// The steps that are left of a line. Contracts see the list of the steps.
 #[derive(Debug, Drop)]

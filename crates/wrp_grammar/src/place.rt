@@ -2,7 +2,7 @@
 ghost use Rattle.std.specs.Prelude.{◌≡◌, ◌≤◌, not, true, is_some, length, IfSome};
 ghost use Rattle.std.specs.Char.{is_ascii_digit};
 ghost use Rattle.std.specs.List.{list_all, prefix_len};
-ghost use Rattle.wrp_grammar.specs.Fronts.{IsLongestFront, is_left};
+ghost use Rattle.wrp_grammar.specs.Fronts.{IsLongestFront, IsLeftFront};
 ghost use Rattle.wrp_grammar.specs.Parts.{parts_of, is_spaced, is_digits, is_step_shape, is_pair_shape};
 ghost use Rattle.wrp_grammar.specs.Shapes.{is_nothing, is_label, has_labels_shape, is_part_of, has_tail_shape, has_parts_shape};
 
@@ -10,12 +10,12 @@ use crate::labels::is_slash_text;
 use crate::text::{halves, is_digits_text, is_sign_byte, split_part};
 use wrp_rules::{Range, Tail};
 
-/// The place at which what is left of a line breaks the shape of leading numbers and what follows them.
+/// The place at which what is left of a line breaks the shape of leading numbers and a tail.
 pub fn parts_form(left: &[u8], numbers: &[Range], tail: Tail) -> Option<usize>
     requires { is_spaced left.now ≡ true }
     ensures broken { is_some result ≡ not (has_parts_shape numbers.now tail (parts_of left.now)) }
-    ensures within { IfSome result (λ at. at ≤ length left.now) }
-    ensures front { IfSome result (λ at. IsLongestFront (is_left (has_parts_shape numbers.now tail)) left.now at) }
+    ensures front { IfSome result
+        (λ at. IsLeftFront (has_parts_shape numbers.now tail) left.now at) }
 {
     let Some((_, ranges)) = numbers.split_first() else {
         return tail_form(left, tail);
@@ -36,17 +36,13 @@ pub fn parts_form(left: &[u8], numbers: &[Range], tail: Tail) -> Option<usize>
 fn tail_form(left: &[u8], tail: Tail) -> Option<usize>
     requires { is_spaced left.now ≡ true }
     ensures broken { is_some result ≡ not (has_tail_shape tail (parts_of left.now)) }
-    ensures within { IfSome result (λ at. at ≤ length left.now) }
-    ensures front { IfSome result (λ at. IsLongestFront (is_left (has_tail_shape tail)) left.now at) }
+    ensures front { IfSome result (λ at. IsLeftFront (has_tail_shape tail) left.now at) }
 {
     match tail {
         Tail::Nothing => nothing_form(left),
         Tail::Labels => labels_form(left),
-        Tail::Steps
-        | Tail::Set
-        | Tail::Indexes
-        | Tail::Multipliers { .. }
-        | Tail::Pairs { .. } => list_form(left, tail),
+        Tail::Steps | Tail::Set | Tail::Indexes | Tail::Multipliers { .. } | Tail::Pairs { .. } =>
+            list_form(left, tail),
     }
 }
 
@@ -54,8 +50,7 @@ fn tail_form(left: &[u8], tail: Tail) -> Option<usize>
 fn nothing_form(left: &[u8]) -> Option<usize>
     requires { is_spaced left.now ≡ true }
     ensures broken { is_some result ≡ not (is_nothing (parts_of left.now)) }
-    ensures within { IfSome result (λ at. at ≤ length left.now) }
-    ensures front { IfSome result (λ at. IsLongestFront (is_left is_nothing) left.now at) }
+    ensures front { IfSome result (λ at. IsLeftFront is_nothing left.now at) }
 {
     if split_part(left).is_some() {
         Some(0)
@@ -68,8 +63,7 @@ fn nothing_form(left: &[u8]) -> Option<usize>
 fn labels_form(line: &[u8]) -> Option<usize>
     requires { is_spaced line.now ≡ true }
     ensures broken { is_some result ≡ not (has_labels_shape (parts_of line.now)) }
-    ensures within { IfSome result (λ at. at ≤ length line.now) }
-    ensures front { IfSome result (λ at. IsLongestFront (is_left has_labels_shape) line.now at) }
+    ensures front { IfSome result (λ at. IsLeftFront has_labels_shape line.now at) }
 {
     let mut left = line;
     while let Some((part, others)) = split_part(left) {
@@ -90,8 +84,7 @@ fn labels_form(line: &[u8]) -> Option<usize>
 
 /// The place at which a part breaks the shapes of a label and of a slash.
 fn label_form(part: &[u8]) -> usize
-    ensures within { result ≤ length part.now }
-    ensures front { IsLongestFront is_label part.now result }
+    ensures { IsLongestFront is_label part.now result }
 {
     let Some((byte, _)) = part.split_first() else {
         return 0;
@@ -107,8 +100,7 @@ fn label_form(part: &[u8]) -> usize
 fn list_form(line: &[u8], tail: Tail) -> Option<usize>
     requires { is_spaced line.now ≡ true }
     ensures broken { is_some result ≡ not (list_all (is_part_of tail) (parts_of line.now)) }
-    ensures within { IfSome result (λ at. at ≤ length line.now) }
-    ensures front { IfSome result (λ at. IsLongestFront (is_left (list_all (is_part_of tail))) line.now at) }
+    ensures front { IfSome result (λ at. IsLeftFront (list_all (is_part_of tail)) line.now at) }
 {
     let mut left = line;
     while let Some((part, others)) = split_part(left) {
@@ -123,7 +115,6 @@ fn list_form(line: &[u8], tail: Tail) -> Option<usize>
 /// The place at which a part breaks its shape.
 fn part_form(part: &[u8], tail: Tail) -> Option<usize>
     ensures broken { is_some result ≡ not (is_part_of tail part.now) }
-    ensures within { IfSome result (λ at. at ≤ length part.now) }
     ensures front { IfSome result (λ at. IsLongestFront (is_part_of tail) part.now at) }
 {
     match tail {
@@ -136,7 +127,6 @@ fn part_form(part: &[u8], tail: Tail) -> Option<usize>
 /// The place at which a part breaks the shape of a number.
 fn digits_form(part: &[u8]) -> Option<usize>
     ensures broken { is_some result ≡ not (is_digits part.now) }
-    ensures within { IfSome result (λ at. at ≤ length part.now) }
     ensures front { IfSome result (λ at. IsLongestFront is_digits part.now at) }
 {
     if is_digits_text(part) {
@@ -149,7 +139,6 @@ fn digits_form(part: &[u8]) -> Option<usize>
 /// The place at which a part breaks the shape of a step.
 fn step_form(part: &[u8]) -> Option<usize>
     ensures broken { is_some result ≡ not (is_step_shape part.now) }
-    ensures within { IfSome result (λ at. at ≤ length part.now) }
     ensures front { IfSome result (λ at. IsLongestFront is_step_shape part.now at) }
 {
     match part.split_last() {
@@ -160,8 +149,7 @@ fn step_form(part: &[u8]) -> Option<usize>
 
 /// The number of bytes with which a text begins as a step does.
 fn step_before(text: &[u8]) -> usize
-    ensures within { result ≤ length text.now }
-    ensures front { IsLongestFront is_step_shape text.now result }
+    ensures { IsLongestFront is_step_shape text.now result }
 {
     let digits = digits_before(text);
     if digits > 0 && digits < text.len() && is_sign_byte(text[digits]) {
@@ -174,7 +162,6 @@ fn step_before(text: &[u8]) -> usize
 /// The place at which a part breaks the shape of a pair.
 fn pair_form(part: &[u8]) -> Option<usize>
     ensures broken { is_some result ≡ not (is_pair_shape part.now) }
-    ensures within { IfSome result (λ at. at ≤ length part.now) }
     ensures front { IfSome result (λ at. IsLongestFront is_pair_shape part.now at) }
 {
     let (first, second) = halves(part);
@@ -187,8 +174,7 @@ fn pair_form(part: &[u8]) -> Option<usize>
 
 /// The number of bytes with which a text begins as a pair does.
 fn pair_before(text: &[u8]) -> usize
-    ensures within { result ≤ length text.now }
-    ensures front { IsLongestFront is_pair_shape text.now result }
+    ensures { IsLongestFront is_pair_shape text.now result }
 {
     let first = digits_before(text);
     if first > 0 && first < text.len() && text[first] == b':' {

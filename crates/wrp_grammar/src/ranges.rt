@@ -1,16 +1,14 @@
 //! Where what is left of a line behind its word breaks a rule of numbers.
-ghost use Rattle.std.specs.Prelude.{◌≡◌, ◌<◌, ◌≤◌, ◌+◌, ◌-◌, ◌^◌, if◌then◌else◌, true, false, length, IfOk, IfErr};
+ghost use Rattle.std.specs.Prelude.{◌≡◌, ◌<◌, ◌≤◌, ◌+◌, ◌^◌, true, false, length, IfOk, IfErr};
 ghost use Rattle.std.specs.List.{list_all};
-ghost use Rattle.wrp_grammar.specs.Parts.{first_half, second_half, number_of, are_set_parts};
-ghost use Rattle.wrp_grammar.specs.Numbers.{is_range_part, is_right_part, tail_keeps_rules, keeps_rules, are_few_pairs, is_next_first, is_next_pair, HasLimit, IsPlaceOfBad};
+ghost use Rattle.wrp_grammar.specs.Parts.{first_half, number_of, are_set_parts};
+ghost use Rattle.wrp_grammar.specs.Numbers.{is_range_part, is_right_part, tail_keeps_rules, keeps_rules, are_few_pairs, is_next_pair, place_in_pair, HasLimit, IsPlaceOfBad};
 
 use crate::labels::is_slash_text;
 use crate::numbers::next_low;
+use crate::parts::MOST_MULTIPLIERS;
 use crate::text::{halves, read_count, read_from_one, read_index, read_step, split_part};
 use wrp_rules::{Range, Tail};
-
-/// A record has at most as many multipliers.
-const MOST_MULTIPLIERS: usize = 4096;
 
 /// The place of the first number that breaks a rule, among leading numbers and what follows them.
 pub fn parts_number(left: &[u8], numbers: &[Range], tail: Tail) -> usize
@@ -99,7 +97,7 @@ fn set_number(line: &[u8]) -> usize
     line.len()
 }
 
-/// The place of the first number that breaks a rule, among pairs of which there may be as many as `room`.
+/// The place of the first number that breaks a rule, among at most `room` pairs.
 fn pairs_number(line: &[u8], most: u128, room: usize) -> usize
     requires { most < 2 ^ 99 }
     ensures within { result ≤ length line.now }
@@ -119,13 +117,14 @@ fn pairs_number(line: &[u8], most: u128, room: usize) -> usize
     line.len()
 }
 
-/// The least first number of the next pair, or the place of this pair's first number that breaks a rule.
+/// The least first number of the next pair, or the place of this pair's number that breaks a rule.
 fn pair_number(part: &[u8], most: u128, low: u64, room: usize) -> Result<u64, usize>
     requires { most < 2 ^ 99 }
     ensures within { IfErr result (λ at. at ≤ length part.now) }
-    ensures next { IfOk result (λ next. (is_next_pair most low room part.now ≡ true) × (next ≡ number_of (first_half part.now) + 1)) }
+    ensures good { IfOk result (λ next. is_next_pair most low room part.now ≡ true) }
+    ensures next { IfOk result (λ next. next ≡ number_of (first_half part.now) + 1) }
     ensures bad { IfErr result (λ at. is_next_pair most low room part.now ≡ false) }
-    ensures place { IfErr result (λ at. at ≡ (if is_next_first low room part.now then length part.now - length (second_half part.now) else 0)) }
+    ensures place { IfErr result (λ at. at ≡ place_in_pair low room part.now) }
 {
     let (first, second) = halves(part);
     if room == 0 {

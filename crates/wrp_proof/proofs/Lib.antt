@@ -1,10 +1,6 @@
-pub mod EndFronts
-pub mod EndNumbers
-pub mod NumberLaws
-pub mod OneFault
+pub mod KindLaws
 pub mod LineLaws
-pub mod Narrow
-pub mod EndLaws
+pub mod FaultLaws
 pub mod SpelledLaws
-pub mod RoundTrips
+pub mod Narrow
 pub mod WorkedSpelling

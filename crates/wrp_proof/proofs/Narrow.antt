@@ -4,7 +4,9 @@ use Rattle.std.proofs.lemmas.Bool.{and_parts, and_from, leb-true, lt-ltb}
 use Rattle.std.specs.List.{list_all}
 use Rattle.wrp_rules.specs.declared.record.Record.{Record}
 use Rattle.wrp_rules.specs.declared.record.Record.TheVariants.{Tour, Conn, Odd, Round, Kc, Bound, Empty, Apart, Point, Blind, Split, Labels}
-use Rattle.wrp_rules.specs.Rules.{is_count, is_from_one, is_ascending, are_pairs, are_multipliers, has_number_rules}
+use Rattle.wrp_rules.specs.Ranges.{is_count, is_from_one, is_ascending, are_pairs, are_multipliers, are_in_ranges}
+use Rattle.wrp_rules.specs.declared.layout.Range.TheVariants.{Count, FromOne}
+use Rattle.wrp_rules.specs.Contents.{has_number_rules}
 use Rattle.wrp_proof.specs.Views.{are_narrow, has_narrow_multipliers}
 
 below : (most : ℕ) (pairs : List (ℕ × ℕ)) → most < 2 ^ 64 → list_all (λ q. is_from_one most q.1) pairs ≡ true → are_narrow pairs ≡ true
@@ -18,15 +20,7 @@ narrow : (most : ℕ) (mult : List (ℕ × ℕ)) → most < 2 ^ 64 → are_multi
 narrow most mult small h = below most mult small (and_parts (is_ascending (2 ^ 32 - 1) (map (λ q. q.0) mult)) (list_all (λ q. is_from_one most q.1) mult) (and_parts (are_pairs most mult) (nat_le (length mult) 4096) h).0).1
 
 pub narrow-multipliers : (item : Record) → has_number_rules item ≡ true → has_narrow_multipliers item ≡ true
-narrow-multipliers (Tour cost steps) h = refl
-narrow-multipliers (Conn r1 r2 set) h = refl
-narrow-multipliers (Odd set) h = refl
-narrow-multipliers (Round divisor mult) h = narrow (2 ^ 40) mult (omega arith) (and_parts (is_from_one (2 ^ 20) divisor) (are_multipliers (2 ^ 40) mult) h).1
-narrow-multipliers (Kc k of) h = refl
-narrow-multipliers (Bound node den mult) h = narrow (2 ^ 60) mult (omega arith) (and_parts (is_count node && is_from_one (2 ^ 40) den) (are_multipliers (2 ^ 60) mult) h).1
-narrow-multipliers (Empty node mult) h = narrow (2 ^ 60) mult (omega arith) (and_parts (is_count node) (are_multipliers (2 ^ 60) mult) h).1
-narrow-multipliers (Apart node r1 r2 set) h = refl
-narrow-multipliers (Point node den numbers) h = refl
-narrow-multipliers (Blind node) h = refl
-narrow-multipliers (Split node arc k) h = refl
-narrow-multipliers (Labels labels streets) h = refl
+narrow-multipliers (Round divisor mult) h = narrow (2 ^ 40) mult (omega arith) (and_parts (are_in_ranges (FromOne (2 ^ 20) ∷ []) (divisor ∷ [])) (are_multipliers (2 ^ 40) mult) h).1
+narrow-multipliers (Bound node den mult) h = narrow (2 ^ 60) mult (omega arith) (and_parts (are_in_ranges (Count ∷ FromOne (2 ^ 40) ∷ []) (node ∷ den ∷ [])) (are_multipliers (2 ^ 60) mult) h).1
+narrow-multipliers (Empty node mult) h = narrow (2 ^ 60) mult (omega arith) (and_parts (are_in_ranges (Count ∷ []) (node ∷ [])) (are_multipliers (2 ^ 60) mult) h).1
+narrow-multipliers _ h = refl

@@ -9,39 +9,20 @@ use Rattle.wrp_rules.specs.declared.rule.Rule.{Rule}
 use Rattle.wrp_rules.specs.declared.rule.Rule.TheVariants as rules
 use Rattle.wrp_rules.specs.Nodes.{Standing, node_at, bound_value}
 use Rattle.wrp_rules.specs.Lines.{line_of}
-use Rattle.wrp_rules.specs.Rules.{has_number_rules, is_alone, node_is_there, rows_are_there, node_is_open, first_broken, rules_of, broken_rule}
+use Rattle.wrp_rules.specs.Rules.{is_alone, node_is_there, rows_are_there, node_is_open, first_broken, rules_of, broken_rule}
+use Rattle.wrp_rules.specs.Contents.{has_number_rules}
 use Rattle.wrp_rules.specs.Judged.{has_plain_costs, is_judged, judged_rule}
-use Rattle.wrp_proof.specs.Views.{is_later, spelled, IsLineOf}
-use Rattle.wrp_proof.specs.Ends.{IsEndLineOf, spelled_end}
+use Rattle.wrp_proof.specs.Views.{is_later, IsLineOf}
+use Rattle.wrp_grammar.specs.Spelling.{spelled}
 use Rattle.wrp_proof.proofs.LineLaws.{spelled-line}
-use Rattle.wrp_proof.proofs.EndLaws.{found-line, line-found}
-
--- ---- ends
-
-pub spelled-end_line : (line : List ℕ) (end : End) → spelled_end line ≡ Some end → IsEndLineOf end line
-unfolding spelled_end
-spelled-end_line line end h = found-line line end h
-
-pub end_line-spelled : (line : List ℕ) (end : End) → IsEndLineOf end line → spelled_end line ≡ Some end
-unfolding spelled_end
-end_line-spelled line end h = line-found line end h
 
 -- ---- from a line to its record
 
 -- a tour or a bound
 abbrev pub is_viewed : Record → Bool
 is_viewed (Tour cost steps) = true
-is_viewed (Conn r1 r2 set) = false
-is_viewed (Odd set) = false
-is_viewed (Round divisor mult) = false
-is_viewed (Kc k of) = false
 is_viewed (Bound node den mult) = true
-is_viewed (Empty node mult) = false
-is_viewed (Apart node r1 r2 set) = false
-is_viewed (Point node den numbers) = false
-is_viewed (Blind node) = false
-is_viewed (Split node arc k) = false
-is_viewed (Labels labels streets) = false
+is_viewed item = false
 
 -- the line is that of a tour or a bound
 pub record Spells (item : Record) (line : List ℕ) : Type 0 where
@@ -51,19 +32,12 @@ pub record Spells (item : Record) (line : List ℕ) : Type 0 where
 -- the lines of all others are later ones
 later-line : (item : Record) → is_viewed item ≡ false → is_later (line_of item) ≡ true
 later-line (Tour cost steps) v = absurd (false≢true (sym v))
-later-line (Conn r1 r2 set) v = refl
+later-line (Bound node den mult) v = absurd (false≢true (sym v))
 later-line (Odd []) v = refl
 later-line (Odd (vertex ∷ set)) v = refl
-later-line (Round divisor mult) v = refl
-later-line (Kc k of) v = refl
-later-line (Bound node den mult) v = absurd (false≢true (sym v))
-later-line (Empty node mult) v = refl
-later-line (Apart node r1 r2 set) v = refl
-later-line (Point node den numbers) v = refl
-later-line (Blind node) v = refl
-later-line (Split node arc k) v = refl
 later-line (Labels [] streets) v = refl
 later-line (Labels (label ∷ labels) streets) v = refl
+later-line _ v = refl
 
 by_kind : (item : Record) (b : Bool) → is_viewed item ≡ b → is_later (line_of item) ≡ false → is_viewed item ≡ true
 by_kind item true e now = e
@@ -125,16 +99,7 @@ bound-passes town s node den mult h =
 pub judged-passes : (town : Town) (s : Standing) (item : Record) → is_viewed item ≡ true → judged_rule town s item ≡ None → Passes town s item
 judged-passes town s (Tour cost steps) v h = record { unbroken = h; judged = refl }
 judged-passes town s (Bound node den mult) v h = bound-passes town s node den mult h
-judged-passes town s (Conn r1 r2 set) v h = absurd (false≢true v)
-judged-passes town s (Odd set) v h = absurd (false≢true v)
-judged-passes town s (Round divisor mult) v h = absurd (false≢true v)
-judged-passes town s (Kc k of) v h = absurd (false≢true v)
-judged-passes town s (Empty node mult) v h = absurd (false≢true v)
-judged-passes town s (Apart node r1 r2 set) v h = absurd (false≢true v)
-judged-passes town s (Point node den numbers) v h = absurd (false≢true v)
-judged-passes town s (Blind node) v h = absurd (false≢true v)
-judged-passes town s (Split node arc k) v h = absurd (false≢true v)
-judged-passes town s (Labels labels streets) v h = absurd (false≢true v)
+judged-passes town s _ v h = absurd (false≢true v)
 
 -- and back: such a record breaks none of the rules that are tried, and is a tour or a bound with numbers in range
 pub record Tried (town : Town) (s : Standing) (item : Record) : Type 0 where
@@ -152,13 +117,4 @@ bound-tried town s node den mult h plain = record {
 pub passes-tried : (town : Town) (s : Standing) (item : Record) → broken_rule town s item ≡ None → is_judged town s item ≡ true → Tried town s item
 passes-tried town s (Tour cost steps) h judged = record { unbroken = h; viewed = refl; numbers = numbers-kept town s (Tour cost steps) h }
 passes-tried town s (Bound node den mult) h judged = bound-tried town s node den mult h judged
-passes-tried town s (Conn r1 r2 set) h judged = absurd (false≢true judged)
-passes-tried town s (Odd set) h judged = absurd (false≢true judged)
-passes-tried town s (Round divisor mult) h judged = absurd (false≢true judged)
-passes-tried town s (Kc k of) h judged = absurd (false≢true judged)
-passes-tried town s (Empty node mult) h judged = absurd (false≢true judged)
-passes-tried town s (Apart node r1 r2 set) h judged = absurd (false≢true judged)
-passes-tried town s (Point node den numbers) h judged = absurd (false≢true judged)
-passes-tried town s (Blind node) h judged = absurd (false≢true judged)
-passes-tried town s (Split node arc k) h judged = absurd (false≢true judged)
-passes-tried town s (Labels labels streets) h judged = absurd (false≢true judged)
+passes-tried town s _ h judged = absurd (false≢true judged)

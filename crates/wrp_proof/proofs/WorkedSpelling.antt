@@ -3,7 +3,7 @@ use Rattle.std.specs.Prelude.{codes}
 use Rattle.std.proofs.Common.{◌≡◌, true, false, [], ◌∷◌, None, Some, refl}
 use Rattle.wrp_rules.specs.declared.record.Record.TheVariants.{Bound}
 use Rattle.wrp_grammar.specs.Shapes.{has_shape}
-use Rattle.wrp_proof.specs.Views.{spelled}
+use Rattle.wrp_grammar.specs.Spelling.{spelled}
 
 -- the record that a line spells
 pub bound_is_spelled : spelled (codes "b 0 2 1:1 3:5") ≡ Some (Bound 0 2 ((1, 1) ∷ (3, 5) ∷ []))

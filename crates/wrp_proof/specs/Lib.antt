@@ -1,3 +1,3 @@
+pub mod Kinds
 pub mod Views
-pub mod EndFaults
 pub mod Ends

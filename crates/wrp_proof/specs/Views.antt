@@ -1,6 +1,8 @@
 -- What a view of a line stands for, and which lines have one.
-use Rattle.std.specs.Prelude.{◌≡◌, ⊤, ℕ, ◌^◌, ◌≤◌, ◌<◌, Bool, true, false, ◌&&◌, nat_lt, ◌==◌, if◌then◌else◌, List, [], ◌∷◌, length, codes, Option, None}
+use Rattle.std.specs.Prelude.{◌≡◌, ⊤, ℕ, ◌^◌, ◌≤◌, ◌<◌, Bool, true, false, ◌&&◌, nat_lt, ◌==◌, List, [], ◌∷◌, length, codes, None}
 use Rattle.std.specs.List.{list_any, list_all}
+use Rattle.std.specs.Str.{bytes_eq}
+use Rattle.wrp_rules.specs.declared.layout.Kind.{Kind}
 use Rattle.wrp_rules.specs.declared.record.Record.{Record}
 use Rattle.wrp_rules.specs.declared.record.Record.TheVariants.{Tour, Conn, Odd, Round, Kc, Bound, Empty, Apart, Point, Blind, Split, Labels}
 use Rattle.wrp_proof.specs.declared.views.View.{View}
@@ -9,13 +11,14 @@ use Rattle.wrp_proof.specs.declared.views.ViewFault.{ViewFault}
 use Rattle.wrp_proof.specs.declared.views.ViewFault.TheVariants as faults
 use Rattle.wrp_proof.specs.declared.fault.LineFault.{LineFault}
 use Rattle.wrp_proof.specs.declared.fault.LineFault.TheVariants as line_faults
+use Rattle.wrp_rules.specs.Layouts.{record_kinds}
 use Rattle.wrp_rules.specs.Lines.{line_of}
-use Rattle.wrp_rules.specs.Rules.{has_number_rules}
-use Rattle.wrp_grammar.specs.Parts.{is_spaced, parts_of}
-use Rattle.wrp_grammar.specs.Shapes.{has_shape}
+use Rattle.wrp_rules.specs.Contents.{has_number_rules}
+use Rattle.wrp_grammar.specs.Parts.{is_space}
+use Rattle.wrp_grammar.specs.Shapes.{is_of_kinds}
 use Rattle.wrp_grammar.specs.Fronts.{IsLongestFront}
 use Rattle.wrp_grammar.specs.Numbers.{IsFirstBadNumber}
-use Rattle.wrp_grammar.specs.Spelling.{record_in}
+use Rattle.wrp_grammar.specs.Spelling.{spelled}
 
 -- the record with the fields and the lists of a view
 abbrev pub record_of : View → Record
@@ -48,40 +51,41 @@ is_later_letter letter = list_any (λ byte. letter == byte) (codes "corkeapzsn")
 
 -- behind its letter a record's line goes on with a space; the letter `o` alone is a whole line
 abbrev pub goes_on : ℕ → List ℕ → Bool
-goes_on letter [] = letter == 111
-goes_on letter (byte ∷ rest) = byte == 32
+goes_on letter [] = bytes_eq (letter ∷ []) (codes "o")
+goes_on letter (byte ∷ rest) = is_space byte
 
 abbrev pub is_later : List ℕ → Bool
 is_later [] = false
 is_later (letter ∷ rest) = is_later_letter letter && goes_on letter rest
-
--- the record that a line spells
-unfoldable pub spelled : List ℕ → Option Record
-spelled [] = None
-spelled (letter ∷ rest) = if is_spaced rest then record_in letter (parts_of rest) else None
 
 -- the line spells a record that keeps the number rules
 pub record IsLineOf (item : Record) (line : List ℕ) : Type 0 where
   pub text : line_of item ≡ line
   pub numbers : has_number_rules item ≡ true
 
--- the fault of a line: Form where it isn't in its shape, at the end of its longest front, else Number, at the
--- first number that breaks a rule
+-- the fault of a line of some kinds: Form where it isn't in a shape of theirs, at the end of its longest
+-- front, else Number, at the first number that breaks a rule
+abbrev pub IsFaultIn : List Kind → List ℕ → ViewFault → Type 0
+IsFaultIn kinds line (faults.Form at) =
+    (length line ≤ 2 ^ 28) × (is_of_kinds kinds line ≡ false) × (at ≤ length line)
+    × IsLongestFront (is_of_kinds kinds) line at
+IsFaultIn kinds line (faults.Number at) =
+    (length line ≤ 2 ^ 28) × (is_of_kinds kinds line ≡ true) × (at ≤ length line)
+    × IsFirstBadNumber kinds line at
+IsFaultIn kinds line faults.Long = 2 ^ 28 < length line
+
 abbrev pub IsFaultOf : List ℕ → ViewFault → Type 0
-IsFaultOf line (faults.Form at) = (length line ≤ 2 ^ 28) × (has_shape line ≡ false) × (at ≤ length line) × IsLongestFront has_shape line at
-IsFaultOf line (faults.Number at) = (length line ≤ 2 ^ 28) × (has_shape line ≡ true) × (at ≤ length line) × IsFirstBadNumber line at
-IsFaultOf line faults.Long = 2 ^ 28 < length line
+IsFaultOf line fault = IsFaultIn record_kinds line fault
 
 -- the fault of a line as a reader of records says it, who may want memory
 abbrev pub IsLineFaultOf : List ℕ → LineFault → Type 0
-IsLineFaultOf line (line_faults.Form at) = (length line ≤ 2 ^ 28) × (has_shape line ≡ false) × (at ≤ length line) × IsLongestFront has_shape line at
-IsLineFaultOf line (line_faults.Number at) = (length line ≤ 2 ^ 28) × (has_shape line ≡ true) × (at ≤ length line) × IsFirstBadNumber line at
-IsLineFaultOf line line_faults.Long = 2 ^ 28 < length line
+IsLineFaultOf line (line_faults.Form at) = IsFaultOf line (faults.Form at)
+IsLineFaultOf line (line_faults.Number at) = IsFaultOf line (faults.Number at)
+IsLineFaultOf line line_faults.Long = IsFaultOf line faults.Long
 IsLineFaultOf line line_faults.Memory = ⊤
 
 -- where a record isn't read, the line spells none, or it is long or memory is wanting
 abbrev pub IsWithoutRecord : List ℕ → LineFault → Type 0
 IsWithoutRecord line (line_faults.Form at) = spelled line ≡ None
 IsWithoutRecord line (line_faults.Number at) = spelled line ≡ None
-IsWithoutRecord line line_faults.Long = ⊤
-IsWithoutRecord line line_faults.Memory = ⊤
+IsWithoutRecord line fault = ⊤

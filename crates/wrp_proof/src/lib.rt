@@ -1,17 +1,19 @@
 //! Proofs of tours and bounds as texts: the lines of records and ends, read without copying and written.
+//! Nothing takes memory but `read_record`, `to_record` and what writes.
 #![tactic(auto)]
 
 mod end;
 mod fault;
+mod kinds;
+mod laws;
 mod owned;
 mod reading;
 mod records;
-#[cfg(test)]
-mod tests;
 mod views;
 
 pub use end::{is_later_end, read_end};
 pub use fault::LineFault;
+pub use laws::{end_laws, line_laws};
 pub use owned::read_record;
 pub use reading::{is_later, view};
 pub use records::to_record;

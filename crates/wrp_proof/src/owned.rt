@@ -2,7 +2,8 @@
 ghost use Rattle.std.specs.Prelude.{◌≡◌, ◌^◌, ◌≤◌, true, Some, length, IfOk, IfErr};
 ghost use Rattle.wrp_rules.specs.declared.record.Record.{Record};
 ghost use Rattle.wrp_proof.specs.declared.fault.LineFault.TheVariants as faults;
-ghost use Rattle.wrp_proof.specs.Views.{record_of, has_narrow_multipliers, spelled as record_spelled, IsLineOf, IsLineFaultOf, IsWithoutRecord};
+ghost use Rattle.wrp_grammar.specs.Spelling.{spelled as record_spelled};
+ghost use Rattle.wrp_proof.specs.Views.{record_of, has_narrow_multipliers, IsLineFaultOf, IsWithoutRecord};
 
 use crate::fault::LineFault;
 use crate::reading::view;
@@ -17,7 +18,6 @@ use wrp_rules::Record;
 ///
 /// Form, Number or Long as of the line's view, or Memory.
 pub fn read_record(alloc: Global, line: &[u8]) -> Result<Record, LineFault>
-    ensures found { IfOk result (λ item. IsLineOf item line.now) }
     ensures spelled { IfOk result (λ item. record_spelled line.now ≡ Some item) }
     ensures short { IfOk result (λ item. length line.now ≤ 2 ^ 28) }
     ensures fault { IfErr result (λ fault. IsLineFaultOf line.now fault) }

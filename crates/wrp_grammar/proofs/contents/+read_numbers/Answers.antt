@@ -1,4 +1,4 @@
-use Rattle.std.proofs.Common.{◌≡◌, ℕ, ◌≤◌, ◌+◌, List, [], ◌∷◌, length, take, refl, sym, ap, ◌∙◌, arith}
+use Rattle.std.proofs.Common.{◌≡◌, ℕ, ◌≤◌, List, [], ◌∷◌, length, take, refl, sym, ap, ◌∙◌, arith}
 use Rattle.wrp_rules.specs.declared.layout.Range.{Range}
 use Rattle.wrp_grammar.specs.declared.contents.Leading.{Leading}
 use Rattle.wrp_grammar.specs.Numbers.{is_range_part}

@@ -1,4 +1,4 @@
-use Rattle.std.proofs.Common.{refl, Some, None, cond, ◌∙◌, sym, ap, map}
+use Rattle.std.proofs.Common.{refl, Some, None, cond, ◌∙◌, ap, map}
 use Rattle.wrp_rules.specs.declared.layout.Tail.TheVariants as tails
 use Rattle.wrp_rules.specs.Contents.{Steps, Numbers, Pairs}
 use Rattle.wrp_grammar.specs.Parts.{parts_of, numbers_of, step_of, pair_of, are_multiplier_parts}

@@ -1,4 +1,4 @@
-use Rattle.std.proofs.Common.{Some, None, ◌≡◌, Bool, false, cond, ◌&&◌, sym, ap, ◌∙◌}
+use Rattle.std.proofs.Common.{Some, None, cond, ◌&&◌, sym, ap, ◌∙◌}
 use Rattle.std.proofs.Math.Bool.{and-false}
 use Rattle.std.specs.List.{list_any, list_all, before_first, after_first}
 use Rattle.std.specs.Option.{option_map}

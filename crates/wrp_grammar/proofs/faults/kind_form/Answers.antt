@@ -2,7 +2,7 @@ use Rattle.std.proofs.Common.{arith, ◌≡◌, ◌-◌, ◌<◌, not, List, len
 use Rattle.std.proofs.lemmas.List.{take_all, length-drop}
 use Rattle.wrp_rules.specs.Layouts.{layout_of}
 use Rattle.wrp_grammar.specs.Shapes.{is_in_layout}
-use Rattle.wrp_grammar.proofs.LineFronts.{Shares, Leaves, BehindWord, layout-short, layout-long, left-same, left-front}
+use Rattle.wrp_grammar.proofs.LineFronts.{Shares, Leaves, layout-short, layout-long, left-same, left-front}
 use Rattle.wrp_grammar.proofs.faults.kind_form.Goals as goal
 use Rattle.wrp_grammar.proofs.faults.kind_form.Goals.{Then-shared-layout, In-Some, In-None}
 

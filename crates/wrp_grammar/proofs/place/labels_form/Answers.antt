@@ -21,7 +21,7 @@ returns-then-not-is_digits_text-clause-front c =
     let cut = left-cut c.loop-part.left.now c.in-Some.part.now c.in-Some.others.now h.spaced c.in-Some.ensures.some c.in-Some.ensures.spaced in
     lifts-place has_labels_shape c.args.line.now c.loop-part.left.now (1 + c.label_form.result) _ h
     (labels-break c.loop-part.left.now c.in-Some.part.now c.in-Some.others.now c.label_form.result (1 + c.label_form.result) cut
-    (sym c.is_slash_text.ensures ∙ c.if-is_slash_text.false) (sym c.is_digits_text.ensures ∙ c.if-not-is_digits_text.true) c.label_form.ensures.front refl)
+    (sym c.is_slash_text.ensures ∙ c.if-is_slash_text.false) (sym c.is_digits_text.ensures ∙ c.if-not-is_digits_text.true) c.label_form.ensures refl)
     (omega arith)
 
 pub loop-part-preserved : goal.loop-part-preserved

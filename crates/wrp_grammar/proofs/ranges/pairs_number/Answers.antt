@@ -14,5 +14,5 @@ pub loop-part-preserved : goal.loop-part-preserved
 loop-part-preserved c = record {
   within = omega (arith, c.in-Some.ensures.length, c.loop-part.invariant.within);
   keeps = pairs-more c.args.most c.args.room c.loop-part.low c.loop-part.room c.in-Ok.next c.saturating_sub-room.result c.args.line.now c.loop-part.left.now c.in-Some.part.now c.in-Some.others.now
-      c.loop-part.invariant.keeps c.in-Some.ensures.some c.in-Some.ensures.length c.in-Ok.ensures.next.0 c.in-Ok.ensures.next.1 c.saturating_sub-room.ensures;
+      c.loop-part.invariant.keeps c.in-Some.ensures.some c.in-Some.ensures.length c.in-Ok.ensures.good c.in-Ok.ensures.next c.saturating_sub-room.ensures;
 }

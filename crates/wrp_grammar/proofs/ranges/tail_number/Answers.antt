@@ -1,4 +1,4 @@
-use Rattle.std.proofs.Common.{◌≡◌, ◌<◌, arith, ap, subst, sym, ◌∙◌}
+use Rattle.std.proofs.Common.{◌≡◌, ◌<◌, ap, subst, sym, ◌∙◌}
 use Rattle.wrp_rules.specs.declared.layout.Tail.TheVariants.{Multipliers, Pairs}
 use Rattle.wrp_grammar.specs.Parts.{parts_of, are_multiplier_parts}
 use Rattle.wrp_grammar.specs.Numbers.{tail_keeps_rules, are_few_pairs, HasLimit, IsPlaceOfBad}
