@@ -190,4 +190,3 @@ ascending-index [] h = refl
 ascending-index (x ∷ xs) h =
     let both = and_parts (nat_le x (2 ^ 32 - 1) && list_all (nat_lt x) xs) (is_ascending (2 ^ 32 - 1) xs) h in
     and_from (is_index x) (list_all is_index xs) (index-of_most x (and_parts (nat_le x (2 ^ 32 - 1)) (list_all (nat_lt x) xs) both.0).0) (ascending-index xs both.1)
-

@@ -191,7 +191,7 @@ items-there kind left others items spaced leading rest h =
     ∙ ap (λ b. option_map with_items (cond b (Some (items_of tail behind_numbers)) None)) (tail-right tail behind_numbers)
     ∙ chosen with_items (is_right_tail tail behind_numbers) (items_of tail behind_numbers)
     ∙ cond-of (is_right_tail tail behind_numbers) (are_leading (layout_of kind).numbers parts && is_right_tail tail behind_numbers) (content_of_parts kind parts)
-      (ap (λ b. b && is_right_tail tail behind_numbers) (sym leading))
+    (ap (λ b. b && is_right_tail tail behind_numbers) (sym leading))
     ∙ sym (behind kind left spaced)
 
 pub content-there : (kind : Kind) (left others : List ℕ) (ranges : List Range) (tail : Tail) (items : Option Items) → ranges ≡ (layout_of kind).numbers → tail ≡ (layout_of kind).tail
@@ -200,4 +200,4 @@ pub content-there : (kind : Kind) (left others : List ℕ) (ranges : List Range)
 content-there kind left others ranges tail items e f spaced leading rest h =
     ap (λ r. option_map (content kind (numbers_of (take (length r) (parts_of left)))) items) e
     ∙ items-there kind left (parts_of others) items spaced (ap (λ r. are_leading r (parts_of left)) (sym e) ∙ leading)
-      (rest ∙ ap (λ r. drop (length r) (parts_of left)) e) (h ∙ ap (λ t. items_in t (parts_of others)) f)
+    (rest ∙ ap (λ r. drop (length r) (parts_of left)) e) (h ∙ ap (λ t. items_in t (parts_of others)) f)

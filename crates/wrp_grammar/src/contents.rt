@@ -9,11 +9,10 @@ ghost use Rattle.wrp_grammar.specs.Spelling.{are_leading, content_behind};
 ghost use Rattle.wrp_grammar.specs.Reading.{numbers_held, items_held, is_small_tail, items_in, content_held};
 
 use crate::labels::label_halves;
-use wrp_rules::layout_of;
 use crate::numbers::NumbersOf;
 use crate::parts::{PairsOf, StepsOf};
 use crate::text::{goes_on_with_space, read_count, read_from_one, read_index, split_part};
-use wrp_rules::{Kind, Range, Tail};
+use wrp_rules::{Kind, Range, Tail, layout_of};
 
 /// The leading numbers of a line. Those that its layout doesn't have are 0.
 #[derive(Clone, Copy, Debug)]
@@ -111,7 +110,10 @@ fn read_items(tail: Tail, left: &[u8]) -> Option<ItemsOf<'_>>
         Tail::Steps => Some(ItemsOf::Steps(StepsOf::new(left)?)),
         Tail::Set => Some(ItemsOf::Numbers(NumbersOf::set(left)?)),
         Tail::Indexes => Some(ItemsOf::Numbers(NumbersOf::indexes(left)?)),
-        Tail::Multipliers { most } => Some(ItemsOf::Pairs(PairsOf::multipliers(left, u128::from(most))?)),
+        Tail::Multipliers { most } => Some(ItemsOf::Pairs(PairsOf::multipliers(
+            left,
+            u128::from(most),
+        )?)),
         Tail::Pairs { most } => Some(ItemsOf::Pairs(PairsOf::pairs(left, most)?)),
         Tail::Labels => read_labels(left),
     }

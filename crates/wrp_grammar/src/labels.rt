@@ -1,4 +1,4 @@
-//! The labels and the streets of a line, on both sides of its slash. 
+//! The labels and the streets of a line, on both sides of its slash.
 ghost use Rattle.std.specs.Prelude.{◌≡◌, is_some, true, IfSome};
 ghost use Rattle.std.specs.List.{list_any, before_first, after_first};
 ghost use Rattle.wrp_grammar.specs.Parts.{is_spaced, parts_of};

@@ -9,9 +9,9 @@ ghost use Rattle.wrp_grammar.specs.Words.{words_are_apart};
 
 use wrp_rules::Kind;
 
-/// A line of kinds whose words are apart leaves their shapes in one place, and its first number that
-/// breaks a rule has one place. Where one stands, the line isn't right; it spells something just where
-/// it is right.
+/// A line of kinds whose words are apart leaves their shapes in one place, and its first number
+/// that breaks a rule has one place. Where one stands, the line isn't right; it spells something
+/// just where it is right.
 pub fn place_laws(kinds: &[Kind], line: &[u8])
     requires { words_are_apart kinds.now ≡ true }
     ensures form { IsOnePlace (IsLongestFront (is_of_kinds kinds.now) line.now) }

@@ -75,8 +75,7 @@ impl<'a> Iterator for NumbersOf<'a> {
     ghost remaining = { item_count (λ s. s) };
 
     /// Takes the first number.
-    fn next(&mut self) -> Option<u32>
-    {
+    fn next(&mut self) -> Option<u32> {
         let (part, left) = split_part(self.left)?;
         self.left = left;
         read_index(part)

@@ -70,8 +70,7 @@ impl<'a> Iterator for StepsOf<'a> {
     ghost remaining = { item_count (λ s. s) };
 
     /// Takes the first step.
-    fn next(&mut self) -> Option<Step>
-    {
+    fn next(&mut self) -> Option<Step> {
         let (part, left) = split_part(self.left)?;
         self.left = left;
         read_step(part)
@@ -151,8 +150,7 @@ impl<'a> Iterator for PairsOf<'a> {
     ghost remaining = { item_count (λ s. s) };
 
     /// Takes the first pair.
-    fn next(&mut self) -> Option<(u32, u128)>
-    {
+    fn next(&mut self) -> Option<(u32, u128)> {
         let (part, left) = split_part(self.left)?;
         self.left = left;
         read_pair(part, MOST_SECOND)

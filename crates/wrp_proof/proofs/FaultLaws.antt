@@ -1,8 +1,8 @@
 -- A line has one fault.
-use Rattle.std.proofs.Common.{arith, ◌≡◌, ℕ, ◌≤◌, ◌<◌, ◌^◌, true, false, List, length, refl, sym, ap, ◌∙◌}
+use Rattle.std.proofs.Common.{arith, ◌≡◌, ℕ, true, List, refl, sym, ap, ◌∙◌}
 use Rattle.std.proofs.lemmas.Bool.{false≢true}
 use Rattle.wrp_rules.specs.declared.layout.Kind.{Kind}
-use Rattle.wrp_rules.specs.Layouts.{record_kinds, end_kinds}
+use Rattle.wrp_rules.specs.Layouts.{end_kinds}
 use Rattle.wrp_proof.specs.declared.views.ViewFault.{ViewFault}
 use Rattle.wrp_proof.specs.declared.views.ViewFault.TheVariants as faults
 use Rattle.wrp_proof.specs.declared.fault.LineFault.{LineFault}

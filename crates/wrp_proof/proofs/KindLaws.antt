@@ -1,9 +1,9 @@
 -- What stands in a line of some kinds is what stands behind the word of its kind.
-use Rattle.std.proofs.Common.{Option, Some, None, is_some, ◌≡◌, ℕ, Bool, true, false, cond, ◌&&◌, ◌||◌, nat_eq, List, [], ◌∷◌, ◌++◌, length, take, drop, refl, sym, ap, ◌∙◌, subst}
-use Rattle.std.proofs.lemmas.Bool.{and_parts, and_from, false≢true}
+use Rattle.std.proofs.Common.{Some, None, is_some, ◌≡◌, ℕ, Bool, true, false, cond, nat_eq, List, [], ◌∷◌, ◌++◌, length, drop, refl, sym, ap, ◌∙◌}
+use Rattle.std.proofs.lemmas.Bool.{false≢true}
 use Rattle.std.proofs.lemmas.Bool.Decides.{Decides-eqb}
 use Rattle.std.proofs.lemmas.Slice.Eq.{starts_is}
-use Rattle.std.specs.List.{list_all, list_any, starts_with}
+use Rattle.std.specs.List.{starts_with}
 use Rattle.wrp_rules.specs.declared.layout.Kind.{Kind}
 use Rattle.wrp_rules.specs.declared.layout.Kind.TheVariants as kinds
 use Rattle.wrp_rules.specs.Layouts.{layout_of, record_kinds, end_kinds}

@@ -1,13 +1,13 @@
 -- A line spells the record, or the end, of which it is the line, and no other.
-use Rattle.std.proofs.Common.{Option, Some, None, IfSome, ◌≡◌, ℕ, Bool, true, false, List, [], ◌∷◌, ◌++◌, refl, sym, ap, ◌∙◌, subst}
+use Rattle.std.proofs.Common.{Option, Some, None, IfSome, ◌≡◌, ℕ, Bool, true, List, [], ◌∷◌, ◌++◌, refl, sym, ap, ◌∙◌}
 use Rattle.wrp_rules.specs.declared.layout.Kind.{Kind}
 use Rattle.wrp_rules.specs.declared.layout.Kind.TheVariants as kinds
 use Rattle.wrp_rules.specs.declared.record.Record.{Record}
-use Rattle.wrp_rules.specs.declared.record.Record.TheVariants.{Tour, Conn, Odd, Round, Kc, Bound, Empty, Apart, Point, Blind, Split, Labels}
+use Rattle.wrp_rules.specs.declared.record.Record.TheVariants.{Tour}
 use Rattle.wrp_rules.specs.declared.record.End.{End}
-use Rattle.wrp_rules.specs.declared.record.End.TheVariants.{Optimal, Infeasible, Unfinished}
+use Rattle.wrp_rules.specs.declared.record.End.TheVariants.{Infeasible}
 use Rattle.wrp_rules.specs.Layouts.{layout_of, record_kinds, end_kinds}
-use Rattle.wrp_rules.specs.Lines.{line_of, end_line, line_with}
+use Rattle.wrp_rules.specs.Lines.{line_with}
 use Rattle.wrp_rules.specs.Contents.{Items, NoItems, Steps, Numbers, Pairs, TwoLists, Content, content, content_of, content_of_end, keeps_number_rules}
 use Rattle.wrp_grammar.specs.Spelling.{content_in, content_behind, record_with, end_with, record_of_content, end_of_content, spelled, spelled_end}
 use Rattle.wrp_grammar.proofs.Spacing.{spread}

@@ -1,10 +1,10 @@
 -- The multipliers of a record that keeps the number rules are below 2 ^ 64.
-use Rattle.std.proofs.Common.{arith, ◌≡◌, ℕ, ◌-◌, ◌<◌, ◌^◌, true, ◌&&◌, nat_lt, nat_le, List, [], ◌∷◌, map, length, refl}
+use Rattle.std.proofs.Common.{arith, ◌≡◌, ℕ, ◌-◌, ◌<◌, ◌^◌, true, nat_lt, nat_le, List, [], ◌∷◌, map, length, refl}
 use Rattle.std.proofs.lemmas.Bool.{and_parts, and_from, leb-true, lt-ltb}
 use Rattle.std.specs.List.{list_all}
 use Rattle.wrp_rules.specs.declared.record.Record.{Record}
-use Rattle.wrp_rules.specs.declared.record.Record.TheVariants.{Tour, Conn, Odd, Round, Kc, Bound, Empty, Apart, Point, Blind, Split, Labels}
-use Rattle.wrp_rules.specs.Ranges.{is_count, is_from_one, is_ascending, are_pairs, are_multipliers, are_in_ranges}
+use Rattle.wrp_rules.specs.declared.record.Record.TheVariants.{Round, Bound, Empty}
+use Rattle.wrp_rules.specs.Ranges.{is_from_one, is_ascending, are_pairs, are_multipliers, are_in_ranges}
 use Rattle.wrp_rules.specs.declared.layout.Range.TheVariants.{Count, FromOne}
 use Rattle.wrp_rules.specs.Contents.{has_number_rules}
 use Rattle.wrp_proof.specs.Views.{are_narrow, has_narrow_multipliers}

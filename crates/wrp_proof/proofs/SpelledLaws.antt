@@ -3,8 +3,7 @@ use Rattle.std.proofs.Common.{◌≡◌, ℕ, Bool, true, false, ◌&&◌, int_l
 use Rattle.std.proofs.lemmas.Bool.{false≢true}
 use Rattle.wrp_town.specs.declared.town.Town.{Town}
 use Rattle.wrp_rules.specs.declared.record.Record.{Record}
-use Rattle.wrp_rules.specs.declared.record.Record.TheVariants.{Tour, Conn, Odd, Round, Kc, Bound, Empty, Apart, Point, Blind, Split, Labels}
-use Rattle.wrp_rules.specs.declared.record.End.{End}
+use Rattle.wrp_rules.specs.declared.record.Record.TheVariants.{Tour, Odd, Bound, Labels}
 use Rattle.wrp_rules.specs.declared.rule.Rule.{Rule}
 use Rattle.wrp_rules.specs.declared.rule.Rule.TheVariants as rules
 use Rattle.wrp_rules.specs.Nodes.{Standing, node_at, bound_value}

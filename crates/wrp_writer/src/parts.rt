@@ -65,6 +65,7 @@ impl Items<'_> {
         ensures { part_text result ≡ get_or (item_parts (items_seen self.now)) at [] }
     {
         match self {
+            // No place has a part, so this is never asked.
             Items::Nothing => Part::Slash,
             Items::Steps(steps) => Part::Step(item(steps, at)),
             Items::Numbers(numbers) => Part::Number(u64::from(item(numbers, at))),

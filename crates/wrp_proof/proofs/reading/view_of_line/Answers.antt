@@ -1,4 +1,4 @@
-use Rattle.std.proofs.Common.{Some, refl, sym, ap, ◌∙◌}
+use Rattle.std.proofs.Common.{sym, ap, ◌∙◌}
 use Rattle.wrp_grammar.proofs.KindLines.{behind-read}
 use Rattle.wrp_proof.proofs.LineLaws.{views-spelled}
 use Rattle.wrp_proof.specs.Kinds.{is_record_kind}
