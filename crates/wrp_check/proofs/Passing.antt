@@ -62,8 +62,7 @@ module _ (town : Town) (place : Place) (limit : ℕ) (open_at : IsOpen place.sta
   unread : (fault : CheckFault) (bytes : List ℕ) → Unread fault limit place.line place.taken bytes → FaultIs fault (verdict_on town place bytes)
   unread (faults.Refused line rule) bytes (same, missing, one, short) = verdict-missing town place limit open_at bytes one short ∙ rw (same, missing) refl
   unread faults.TooLong bytes passes = verdict-passes town place limit open_at bytes passes
-  unread faults.Read bytes h = tt
-  unread faults.Memory bytes h = tt
+  unread fault bytes h = tt
 
   pub unread_told : (fault : CheckFault) (input : Input) → IfSome input.left (λ bytes. Unread fault limit place.line place.taken bytes) → FaultOn town place input fault
   unread_told fault input h = told_each _ _ input.left (unread fault) h
@@ -96,8 +95,7 @@ behind_end town end (faults.Refused at rule) number taken rest (same, after_it, 
 behind_end town end faults.TooLong number taken rest (full, some) =
     let test = eq-eqb taken most_bytes full in
     verdict-after town end number taken rest some ∙ rw test refl
-behind_end town end faults.Read number taken rest h = tt
-behind_end town end faults.Memory number taken rest h = tt
+behind_end town end fault number taken rest h = tt
 
 -- a line that was taken leaves the bytes below the greatest number
 pub taken_most : (limit : ℕ) (old new : Buffered) (before after : Input) → TakesLine limit old new before after → new.taken ≤ most_bytes

@@ -1,10 +1,11 @@
 -- How the checker passes over the lines of a proof.
-use Rattle.std.specs.Prelude.{◌≡◌, ◌≢◌, ℕ, ◌+◌, ◌<◌, ◌≤◌, ◌^◌, true, false, List, [], ◌∷◌, ◌++◌, length, Option, None, Some, Result, Ok, Err}
+use Rattle.std.specs.Prelude.{◌≡◌, ◌≢◌, ℕ, ◌+◌, ◌<◌, ◌≤◌, true, false, List, [], ◌∷◌, ◌++◌, length, Option, None, Some, Result, Ok, Err}
 use Rattle.wrp_out.specs.Outside.{Input, Took, Tells}
 use Rattle.wrp_town.specs.declared.town.Town.{Town}
 use Rattle.wrp_rules.specs.declared.record.End.{End}
 use Rattle.wrp_rules.specs.declared.rule.Rule.TheVariants as rules
 use Rattle.wrp_rules.specs.Nodes.{Standing, start}
+use Rattle.wrp_rules.specs.Proofs.{version_2}
 use Rattle.wrp_check.specs.declared.pass.CheckFault.{CheckFault}
 use Rattle.wrp_check.specs.declared.pass.CheckFault.TheVariants as faults
 use Rattle.wrp_check.specs.declared.pass.Progress.{Progress}
@@ -27,16 +28,14 @@ Unread (faults.Refused line rule) limit number taken bytes =
     (line ≡ number) × (rule ≡ rules.Missing) × (is_one_line bytes ≡ true)
     × (is_long limit taken bytes (length bytes) ≡ false)
 Unread faults.TooLong limit number taken bytes = PassesLimit limit taken bytes
-Unread faults.Read limit number taken bytes = Unit {0}
-Unread faults.Memory limit number taken bytes = Unit {0}
+Unread fault limit number taken bytes = Unit {0}
 
 -- something stands behind the end line
 abbrev pub Behind : CheckFault → ℕ → ℕ → List ℕ → Type 0
 Behind (faults.Refused line rule) number taken rest =
     (line ≡ number) × (rule ≡ rules.After) × (rest ≢ []) × (taken < most_bytes)
 Behind faults.TooLong number taken rest = (taken ≡ most_bytes) × (rest ≢ [])
-Behind faults.Read number taken rest = Unit {0}
-Behind faults.Memory number taken rest = Unit {0}
+Behind fault number taken rest = Unit {0}
 
 -- the place behind the version line, where lines of at most so many bytes come next
 abbrev pub behind_version : Town → ℕ → ℕ → Place
@@ -46,7 +45,7 @@ behind_version town limit taken =
 -- the version line was taken, and what is left decides the verdict
 pub record Begins (town : Town) (limit : ℕ) (old new : Buffered) (before after : Input)
     : Type 0 where
-  pub small : limit ≤ 2 ^ 28
+  pub small : limit ≤ version_2.limit
   pub most : new.taken ≤ most_bytes
   pub piece : List ℕ
   pub took : Took (ahead old before) (ahead new after) piece
@@ -62,7 +61,7 @@ place_of pass s = record { stage = Next pass.limit s; line = pass.number; taken 
 -- it may read the next line
 pub record IsUnderWay (town : Town) (pass : Progress) : Type 0 where
   pub ready : IsReady town pass.judge
-  pub limit : pass.limit ≤ 2 ^ 28
+  pub limit : pass.limit ≤ version_2.limit
   pub number : pass.number ≤ pass.lines.taken + 2
   pub most : pass.lines.taken ≤ most_bytes
 

@@ -139,8 +139,7 @@ verdict town bytes = verdict_on town first_place bytes
 abbrev pub FaultIs : CheckFault → Verdict → Type 0
 FaultIs (faults.Refused line rule) said = said ≡ Refused line rule
 FaultIs faults.TooLong said = said ≡ Long
-FaultIs faults.Read said = Unit {0}
-FaultIs faults.Memory said = Unit {0}
+FaultIs fault said = Unit {0}
 
 abbrev pub AnswerIs : Result End CheckFault → Verdict → Type 0
 AnswerIs (Ok end) said = said ≡ Accepted end

@@ -1,6 +1,7 @@
 //! A reader of the lines of a source, which holds one line and a chunk of the bytes behind it.
 ghost use Rattle.std.specs.Prelude.{◌≡◌, ◌≢◌, ◌+◌, ◌-◌, ◌<◌, ◌≤◌, ◌^◌, ◌⊎◌, [], length, take, min, position, ◌==◌, IsTrue, IfOk, IfSome, OnErr, IsErrOf};
 ghost use Rattle.wrp_out.specs.Outside.{Tells, Took, FaultRose, ReadFailed};
+ghost use Rattle.wrp_rules.specs.Proofs.{version_2};
 ghost use Rattle.wrp_check.specs.Streams.{Draws, HandsOut, PassesLimit, Peeks, PieceTooLong, TakesPiece, ahead, drawn, line_len, most_bytes};
 ghost use Rattle.wrp_check.specs.declared.lines.LinesFault.TheVariants.{TooLong, Read, Memory};
 
@@ -107,7 +108,7 @@ impl Lines {
         source: &mut P,
         limit: u64,
     ) -> Result<Ending, LinesFault>
-        requires { limit ≤ 2 ^ 28 }
+        requires { limit ≤ version_2.limit }
         ensures line { IfOk result (λ ending.
             HandsOut limit ending self.old self.new (P.input source.old) (P.input source.new)) }
         ensures too_long { IsErrOf result TooLong
@@ -179,7 +180,7 @@ impl Lines {
     /// Moves the pending bytes up to the first line feed, or all of them, to the end of the line.
     /// Answers whether there was a line feed, which is taken too.
     fn take_piece(&mut self, limit: u64) -> Result<bool, LinesFault>
-        requires limit { limit ≤ 2 ^ 28 }
+        requires limit { limit ≤ version_2.limit }
         requires within { length self.old.line ≤ limit }
         ensures piece { IfOk result (λ feed. TakesPiece limit feed self.old self.new) }
         ensures too_long { IsErrOf result TooLong → PieceTooLong limit self.old }

@@ -4,7 +4,7 @@ ghost use Rattle.std.specs.Str.{bytes_eq};
 ghost use Rattle.wrp_out.specs.Outside.{Input, Tells, TookAtMost, FaultRose};
 ghost use Rattle.wrp_town.specs.declared.town.Town.{Town};
 ghost use Rattle.wrp_rules.specs.declared.record.End.{End};
-ghost use Rattle.wrp_rules.specs.Proofs.{IsProof};
+ghost use Rattle.wrp_rules.specs.Proofs.{IsProof, version_2};
 ghost use Rattle.wrp_laws.specs.Ends.{EndHolds};
 ghost use Rattle.wrp_check.specs.declared.lines.LinesFault.TheVariants as line_faults;
 ghost use Rattle.wrp_check.specs.declared.pass.CheckFault.TheVariants as faults;
@@ -87,7 +87,7 @@ fn read_line<P: Source>(
     limit: u64,
     number: u64,
 ) -> Result<(), CheckFault>
-    requires { limit ≤ 2 ^ 28 }
+    requires { limit ≤ version_2.limit }
     ensures line { OnOk result (
         TakesLine limit lines.old lines.new (P.input proof.old) (P.input proof.new)) }
     ensures unread { IfErr result (λ fault.
