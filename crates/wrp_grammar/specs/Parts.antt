@@ -65,7 +65,8 @@ abbrev pub is_step_shape : List ℕ → Bool
 is_step_shape part = is_sign (sign_of part) && is_digits (street_part part)
 
 abbrev pub is_step : List ℕ → Bool
-is_step part = is_sign (sign_of part) && (is_number (street_part part) && is_index (number_of (street_part part)))
+is_step part = is_sign (sign_of part) && (is_number (street_part part)
+    && is_index (number_of (street_part part)))
 
 -- the step that a part spells
 abbrev pub step_of : List ℕ → Step
@@ -96,7 +97,8 @@ pair_of part = (number_of (first_half part), number_of (second_half part))
 
 -- pairs that are written right and are multipliers
 abbrev pub are_multiplier_parts : ℕ → List (List ℕ) → Bool
-are_multiplier_parts most parts = list_all (is_pair most) parts && are_multipliers most (map pair_of parts)
+are_multiplier_parts most parts = list_all (is_pair most) parts
+    && are_multipliers most (map pair_of parts)
 
 -- pairs that are written right, their first numbers ascending
 abbrev pub are_pair_parts : ℕ → List (List ℕ) → Bool

@@ -39,4 +39,5 @@ is_small_tail tail = true
 
 -- the items that parts spell, where they are in the shape of this tail and keep its rules
 abbrev pub items_in : Tail → List (List ℕ) → Option Items
-items_in tail parts = if has_tail_shape tail parts && tail_keeps_rules tail parts then Some (items_of tail parts) else None
+items_in tail parts = if has_tail_shape tail parts && tail_keeps_rules tail parts
+    then Some (items_of tail parts) else None

@@ -45,7 +45,8 @@ has_tail_shape tail parts = list_all (is_part_of tail) parts
 abbrev pub has_parts_shape : List Range → Tail → List (List ℕ) → Bool
 has_parts_shape [] tail parts = has_tail_shape tail parts
 has_parts_shape (range ∷ ranges) tail [] = false
-has_parts_shape (range ∷ ranges) tail (part ∷ parts) = is_digits part && has_parts_shape ranges tail parts
+has_parts_shape (range ∷ ranges) tail (part ∷ parts) = is_digits part
+    && has_parts_shape ranges tail parts
 
 -- what is left of a line behind its word has the parts of the layout
 abbrev pub goes_on_in : Layout → List ℕ → Bool

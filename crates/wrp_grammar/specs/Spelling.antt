@@ -40,13 +40,15 @@ content_of_parts kind parts =
 
 -- what stands behind the word of a line of this kind
 abbrev pub content_behind : Kind → List ℕ → Option Content
-content_behind kind left = if is_right_behind kind left then Some (content_of_parts kind (parts_of left)) else None
+content_behind kind left = if is_right_behind kind left
+    then Some (content_of_parts kind (parts_of left)) else None
 
 -- what stands in a line of one of these kinds
 abbrev pub content_in : List Kind → List ℕ → Option Content
 content_in [] line = None
 content_in (kind ∷ kinds) line =
-    if starts_with nat_eq line (layout_of kind).word then content_behind kind (drop (length (layout_of kind).word) line)
+    if starts_with nat_eq line (layout_of kind).word
+    then content_behind kind (drop (length (layout_of kind).word) line)
     else content_in kinds line
 
 -- the record with this content

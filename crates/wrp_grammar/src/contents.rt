@@ -62,8 +62,10 @@ fn read_numbers<'a>(ranges: &[Range], left: &'a [u8]) -> Option<(Leading, &'a [u
     requires few { length ranges.now ≤ 3 }
     requires spaced { is_spaced left.now ≡ true }
     ensures some { is_some result ≡ are_leading ranges.now (parts_of left.now) }
-    ensures numbers { IfSome result (λ x. numbers_held ranges.now x.0 ≡ numbers_of (take (length ranges.now) (parts_of left.now))) }
-    ensures left { IfSome result (λ x. parts_of x.1.now ≡ drop (length ranges.now) (parts_of left.now)) }
+    ensures numbers { IfSome result (λ x. numbers_held ranges.now x.0
+        ≡ numbers_of (take (length ranges.now) (parts_of left.now))) }
+    ensures left { IfSome result (λ x. parts_of x.1.now
+        ≡ drop (length ranges.now) (parts_of left.now)) }
     ensures spaced { IfSome result (λ x. is_spaced x.1.now ≡ true) }
 {
     let Some((range, others)) = ranges.split_first() else {

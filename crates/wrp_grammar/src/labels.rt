@@ -10,8 +10,10 @@ use crate::text::split_part;
 pub fn label_halves(line: &[u8]) -> Option<(&[u8], &[u8])>
     requires { is_spaced line.now ≡ true }
     ensures some { is_some result ≡ list_any is_slash (parts_of line.now) }
-    ensures labels { IfSome result (λ x. parts_of x.0.now ≡ before_first is_slash (parts_of line.now)) }
-    ensures streets { IfSome result (λ x. parts_of x.1.now ≡ after_first is_slash (parts_of line.now)) }
+    ensures labels { IfSome result (λ x. parts_of x.0.now
+        ≡ before_first is_slash (parts_of line.now)) }
+    ensures streets { IfSome result (λ x. parts_of x.1.now
+        ≡ after_first is_slash (parts_of line.now)) }
 {
     let mut left = line;
     while let Some((part, others)) = split_part(left) {

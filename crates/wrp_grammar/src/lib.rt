@@ -1,5 +1,5 @@
-//! The parts of a line: numbers, steps, pairs and sets, read without copying, and the places where a line
-//! leaves the shape or the number rules of its kind. Nothing here takes memory.
+//! The parts of a line: numbers, steps, pairs and sets, read without copying, and the places where
+//! a line leaves the shape or the number rules of its kind. Nothing here takes memory.
 #![tactic(auto)]
 
 mod contents;

@@ -29,7 +29,8 @@ impl<'a> Model for NumbersOf<'a> {
 impl<'a> NumbersOf<'a> {
     /// The numbers of parts, where each of them is written right and below 2^32.
     pub fn indexes(left: &'a [u8]) -> Option<NumbersOf<'a>>
-        ensures { result ≡ (if list_all is_index_part (parts_of left.now) then Some (numbers_of (parts_of left.now)) else None) }
+        ensures { result ≡ (if list_all is_index_part (parts_of left.now)
+            then Some (numbers_of (parts_of left.now)) else None) }
     {
         if are_indexes(left) {
             Some(NumbersOf { left })
@@ -40,7 +41,8 @@ impl<'a> NumbersOf<'a> {
 
     /// The numbers of parts, where each of them is written right and they are strictly ascending.
     pub fn set(left: &'a [u8]) -> Option<NumbersOf<'a>>
-        ensures { result ≡ (if are_set_parts (parts_of left.now) then Some (numbers_of (parts_of left.now)) else None) }
+        ensures { result ≡ (if are_set_parts (parts_of left.now)
+            then Some (numbers_of (parts_of left.now)) else None) }
     {
         if are_ascending(left) {
             Some(NumbersOf { left })
@@ -114,7 +116,8 @@ fn are_ascending(line: &[u8]) -> bool
 
 /// The least number that may come after this one, where this is a number and at least `low`.
 pub fn next_low(part: &[u8], low: u64) -> Option<u64>
-    ensures { result ≡ (if is_index_part part.now && nat_le low (number_of part.now) then Some (number_of part.now + 1) else None) }
+    ensures { result ≡ (if is_index_part part.now && nat_le low (number_of part.now)
+        then Some (number_of part.now + 1) else None) }
 {
     let number = u64::from(read_index(part)?);
     if number >= low {

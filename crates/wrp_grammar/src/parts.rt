@@ -35,7 +35,8 @@ impl<'a> Model for StepsOf<'a> {
 impl<'a> StepsOf<'a> {
     /// The steps of parts, where each of them is a step that is written right.
     pub fn new(left: &'a [u8]) -> Option<StepsOf<'a>>
-        ensures { result ≡ (if list_all is_step (parts_of left.now) then Some (map step_of (parts_of left.now)) else None) }
+        ensures { result ≡ (if list_all is_step (parts_of left.now)
+            then Some (map step_of (parts_of left.now)) else None) }
     {
         if are_steps(left) {
             Some(StepsOf { left })
@@ -96,12 +97,13 @@ impl<'a> Model for PairsOf<'a> {
 }
 
 impl<'a> PairsOf<'a> {
-    /// The multipliers of parts, where they are written right: ascending first numbers, second numbers
-    /// from 1 to `most`, and at most 4,096 of them.
+    /// The multipliers of parts, where they are written right: ascending first numbers, second
+    /// numbers from 1 to `most`, and at most 4,096 of them.
     #[tactic(auto, using(crate::proofs::PairLists::few_multipliers))]
     pub fn multipliers(left: &'a [u8], most: u128) -> Option<PairsOf<'a>>
         requires { most ≤ 2 ^ 72 }
-        ensures { result ≡ (if are_multiplier_parts most (parts_of left.now) then Some (map pair_of (parts_of left.now)) else None) }
+        ensures { result ≡ (if are_multiplier_parts most (parts_of left.now)
+            then Some (map pair_of (parts_of left.now)) else None) }
     {
         if are_pairs_text(left, most, MOST_MULTIPLIERS) {
             Some(PairsOf { left })
@@ -110,12 +112,13 @@ impl<'a> PairsOf<'a> {
         }
     }
 
-    /// The pairs of parts, where they are written right: ascending first numbers, and second numbers from
-    /// 1 to `most`.
+    /// The pairs of parts, where they are written right: ascending first numbers, and second
+    /// numbers from 1 to `most`.
     #[tactic(auto, using(crate::proofs::PairLists::few_pairs))]
     pub fn pairs(left: &'a [u8], most: u128) -> Option<PairsOf<'a>>
         requires { most ≤ 2 ^ 72 }
-        ensures { result ≡ (if are_pair_parts most (parts_of left.now) then Some (map pair_of (parts_of left.now)) else None) }
+        ensures { result ≡ (if are_pair_parts most (parts_of left.now)
+            then Some (map pair_of (parts_of left.now)) else None) }
     {
         if are_pairs_text(left, most, left.len()) {
             Some(PairsOf { left })
@@ -171,11 +174,12 @@ fn are_steps(line: &[u8]) -> bool
     true
 }
 
-/// Whether the parts that are left are pairs, written right, their first numbers ascending, their second
-/// numbers from 1 to `most`, and at most `few` of them.
+/// Whether the parts that are left are pairs, written right, their first numbers ascending, their
+/// second numbers from 1 to `most`, and at most `few` of them.
 fn are_pairs_text(line: &[u8], most: u128, few: usize) -> bool
     requires { most < 2 ^ 99 }
-    ensures { result ≡ (are_pair_parts most (parts_of line.now) && nat_le (length (parts_of line.now)) few) }
+    ensures { result ≡ (are_pair_parts most (parts_of line.now)
+        && nat_le (length (parts_of line.now)) few) }
 {
     let mut left = line;
     let mut room = few;
@@ -191,11 +195,12 @@ fn are_pairs_text(line: &[u8], most: u128, few: usize) -> bool
     true
 }
 
-/// The least first number of the pair after this one, where this is a pair that has room and whose first
-/// number is at least `low`.
+/// The least first number of the pair after this one, where this is a pair that has room and whose
+/// first number is at least `low`.
 fn next_least(part: &[u8], most: u128, low: u64, room: usize) -> Option<u64>
     requires { most < 2 ^ 99 }
-    ensures { result ≡ (if is_pair most part.now && (nat_lt 0 room && nat_le low (pair_of part.now).0)
+    ensures { result ≡ (if is_pair most part.now && (nat_lt 0 room
+        && nat_le low (pair_of part.now).0)
         then Some ((pair_of part.now).0 + 1) else None) }
 {
     let (first, _) = read_pair(part, most)?;

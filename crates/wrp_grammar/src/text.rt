@@ -20,7 +20,8 @@ fn bytes_before(bytes: &[u8], wanted: u8) -> usize
     bytes.len()
 }
 
-/// The first part of what is left of a line, and what is left after it; `None` where no part is left.
+/// The first part of what is left of a line, and what is left after it; `None` where no part is
+/// left.
 pub fn split_part(left: &[u8]) -> Option<(&[u8], &[u8])>
     ensures some { IfSome result (λ x. parts_of left.now ≡ x.0.now ∷ parts_of x.1.now) }
     ensures length { IfSome result (λ x. length left.now ≡ length x.0.now + length x.1.now + 1) }
@@ -75,7 +76,8 @@ fn is_number_text(part: &[u8]) -> bool
 fn read_number(part: &[u8], limit: u128) -> Option<u128>
     requires some { 0 < limit }
     requires limit { limit < 2 ^ 100 }
-    ensures { result ≡ (if is_number part.now && nat_lt (number_of part.now) limit then Some (number_of part.now) else None) }
+    ensures { result ≡ (if is_number part.now && nat_lt (number_of part.now) limit
+        then Some (number_of part.now) else None) }
 {
     if is_number_text(part) {
         value_below(part, limit)
@@ -89,7 +91,8 @@ fn value_below(digits: &[u8], limit: u128) -> Option<u128>
     requires digits { is_digits digits.now ≡ true }
     requires some { 0 < limit }
     requires limit { limit < 2 ^ 100 }
-    ensures { result ≡ (if nat_lt (number_of digits.now) limit then Some (number_of digits.now) else None) }
+    ensures { result ≡ (if nat_lt (number_of digits.now) limit
+        then Some (number_of digits.now) else None) }
 {
     let mut value = 0;
     for digit in digits {
@@ -103,7 +106,8 @@ fn value_below(digits: &[u8], limit: u128) -> Option<u128>
 
 /// The number of a street, junction, row, arc, label or set.
 pub fn read_index(part: &[u8]) -> Option<u32>
-    ensures { result ≡ (if is_number part.now && is_index (number_of part.now) then Some (number_of part.now) else None) }
+    ensures { result ≡ (if is_number part.now && is_index (number_of part.now)
+        then Some (number_of part.now) else None) }
 {
     match read_number(part, 1 << 32) {
         Some(number) => Some(number as u32),
@@ -113,7 +117,8 @@ pub fn read_index(part: &[u8]) -> Option<u32>
 
 /// A cost, or the number of a node.
 pub fn read_count(part: &[u8]) -> Option<u64>
-    ensures { result ≡ (if is_number part.now && is_count (number_of part.now) then Some (number_of part.now) else None) }
+    ensures { result ≡ (if is_number part.now && is_count (number_of part.now)
+        then Some (number_of part.now) else None) }
 {
     match read_number(part, 1 << 63) {
         Some(number) => Some(number as u64),
@@ -124,7 +129,8 @@ pub fn read_count(part: &[u8]) -> Option<u64>
 /// A number from 1 to `most`.
 pub fn read_from_one(part: &[u8], most: u128) -> Option<u128>
     requires { most < 2 ^ 99 }
-    ensures { result ≡ (if is_number part.now && is_from_one most (number_of part.now) then Some (number_of part.now) else None) }
+    ensures { result ≡ (if is_number part.now && is_from_one most (number_of part.now)
+        then Some (number_of part.now) else None) }
 {
     match read_number(part, most + 1) {
         Some(number) if number > 0 => Some(number),

@@ -32,4 +32,6 @@ IsEndFault line faults.Memory = ⊥
 
 -- the line is in the shape of an end that the checker doesn't judge yet
 abbrev pub is_later_end : List ℕ → Bool
-is_later_end line = bytes_eq line (codes "end infeasible") || starts_with nat_eq line (codes "end unfinished ")
+is_later_end line =
+    bytes_eq line (codes "end infeasible")
+    || starts_with nat_eq line (codes "end unfinished ")

@@ -63,8 +63,8 @@ pub record IsLineOf (item : Record) (line : List ℕ) : Type 0 where
   pub text : line_of item ≡ line
   pub numbers : has_number_rules item ≡ true
 
--- the fault of a line of some kinds: Form where it isn't in a shape of theirs, at the end of its longest
--- front, else Number, at the first number that breaks a rule
+-- the fault of a line of some kinds: Form where it isn't in a shape of theirs, at the end of its
+-- longest front, else Number, at the first number that breaks a rule
 abbrev pub IsFaultIn : List Kind → List ℕ → ViewFault → Type 0
 IsFaultIn kinds line (faults.Form at) =
     (length line ≤ 2 ^ 28) × (is_of_kinds kinds line ≡ false) × (at ≤ length line)

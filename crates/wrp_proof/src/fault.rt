@@ -7,8 +7,8 @@ pub enum LineFault {
     /// The line isn't in its shape: the longest front of it that is a front of such a line.
     #[error("the line leaves its shape at byte {at}")]
     Form { at: u64 },
-    /// A number is written otherwise than it has to be, or out of its range or order: the place of its
-    /// first digit.
+    /// A number is written otherwise than it has to be, or out of its range or order: the place of
+    /// its first digit.
     #[error("a number breaks a rule at byte {at}")]
     Number { at: u64 },
     /// The line has more than 2^28 bytes.

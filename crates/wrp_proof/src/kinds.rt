@@ -31,7 +31,8 @@ pub(crate) const END_KINDS: [Kind; 3] = [Kind::Optimal, Kind::Infeasible, Kind::
 /// The kind of a record's line, by its letter, and what is left of the line.
 pub(crate) fn record_kind(line: &[u8]) -> Option<(Kind, &[u8])>
     ensures kind { IfSome result (λ x. is_record_kind x.0 ≡ true) }
-    ensures some { IfSome result (λ x. content_in record_kinds line.now ≡ content_behind x.0 x.1.now) }
+    ensures some { IfSome result (λ x. content_in record_kinds line.now
+        ≡ content_behind x.0 x.1.now) }
     ensures none { IfNone result (content_in record_kinds line.now ≡ None) }
 {
     let (letter, left) = line.split_first()?;
@@ -43,7 +44,8 @@ pub(crate) fn record_kind(line: &[u8]) -> Option<(Kind, &[u8])>
 fn kind_of_letter(letter: u8) -> Option<Kind>
     ensures kind { IfSome result (λ kind. is_record_kind kind ≡ true) }
     ensures some { IfSome result (λ kind. (layout_of_kind kind).word ≡ letter ∷ []) }
-    ensures none { IfNone result ((left : List ℕ) → content_in record_kinds (letter ∷ left) ≡ None) }
+    ensures none { IfNone result ((left : List ℕ)
+        → content_in record_kinds (letter ∷ left) ≡ None) }
 {
     match letter {
         b't' => Some(Kind::Tour),

@@ -1,5 +1,5 @@
-//! Proofs of tours and bounds as texts: the lines of records and ends, read without copying and written.
-//! Nothing takes memory but `read_record`, `to_record` and what writes.
+//! Proofs of tours and bounds as texts: the lines of records and ends, read without copying and
+//! written. Nothing takes memory but `read_record`, `to_record` and what writes.
 #![tactic(auto)]
 
 mod end;

@@ -14,8 +14,8 @@ use wrp_rules::{Kind, LONGEST_LINE};
 
 /// The view of the line of a record.
 ///
-/// A view lends from its line and can't be kept after it. So the compiler refuses this function, since it
-/// returns a value that lends from its own variable `line`:
+/// A view lends from its line and can't be kept after it. So the compiler refuses this function,
+/// since it returns a value that lends from its own variable `line`:
 ///
 /// ```compile_fail
 /// fn kept_view(alloc: Global) -> Result<View<'static>, AllocError> {
@@ -29,8 +29,8 @@ use wrp_rules::{Kind, LONGEST_LINE};
 ///
 /// # Errors
 ///
-/// `Long` where the line has more than 2^28 bytes, else `Form` where it isn't in the shape of a record, and
-/// else `Number`.
+/// `Long` where the line has more than 2^28 bytes, else `Form` where it isn't in the shape of a
+/// record, and else `Number`.
 pub fn view(line: &[u8]) -> Result<View<'_>, ViewFault>
     ensures spelled { IfOk result (λ v. spelled line.now ≡ Some (record_of v)) }
     ensures short { IfOk result (λ v. length line.now ≤ 2 ^ 28) }
@@ -47,8 +47,8 @@ pub fn view(line: &[u8]) -> Result<View<'_>, ViewFault>
     }
 }
 
-/// Whether the line has the letter of a record that is neither a tour nor a bound, and goes on with a
-/// space; or is the letter `o` alone.
+/// Whether the line has the letter of a record that is neither a tour nor a bound, and goes on with
+/// a space; or is the letter `o` alone.
 pub fn is_later(line: &[u8]) -> bool
     ensures { result ≡ is_later_line line.now }
 {
@@ -110,7 +110,8 @@ fn view_of_nothing<'a>(kind: Kind, numbers: Leading) -> Option<View<'a>>
     requires kind { is_record_kind kind ≡ true }
     requires rules { keeps_number_rules (content_with kind numbers NoItems) ≡ true }
     ensures some { is_some result ≡ true }
-    ensures content { IfSome result (λ v. content_of (record_of v) ≡ content_with kind numbers NoItems) }
+    ensures content { IfSome result (λ v. content_of (record_of v)
+        ≡ content_with kind numbers NoItems) }
 {
     match kind {
         Kind::Blind => Some(View::Blind {
@@ -128,7 +129,8 @@ fn view_of_nothing<'a>(kind: Kind, numbers: Leading) -> Option<View<'a>>
 fn view_of_steps(kind: Kind, numbers: Leading, steps: StepsOf<'_>) -> Option<View<'_>>
     requires { keeps_number_rules (content_with kind numbers (Steps steps)) ≡ true }
     ensures some { is_some result ≡ true }
-    ensures content { IfSome result (λ v. content_of (record_of v) ≡ content_with kind numbers (Steps steps.entry)) }
+    ensures content { IfSome result (λ v. content_of (record_of v)
+        ≡ content_with kind numbers (Steps steps.entry)) }
 {
     match kind {
         Kind::Tour => Some(View::Tour {
@@ -142,7 +144,8 @@ fn view_of_steps(kind: Kind, numbers: Leading, steps: StepsOf<'_>) -> Option<Vie
 fn view_of_numbers(kind: Kind, numbers: Leading, list: NumbersOf<'_>) -> Option<View<'_>>
     requires { keeps_number_rules (content_with kind numbers (Numbers list)) ≡ true }
     ensures some { is_some result ≡ true }
-    ensures content { IfSome result (λ v. content_of (record_of v) ≡ content_with kind numbers (Numbers list.entry)) }
+    ensures content { IfSome result (λ v. content_of (record_of v)
+        ≡ content_with kind numbers (Numbers list.entry)) }
 {
     match kind {
         Kind::Conn => Some(View::Conn {
@@ -168,7 +171,8 @@ fn view_of_numbers(kind: Kind, numbers: Leading, list: NumbersOf<'_>) -> Option<
 fn view_of_pairs(kind: Kind, numbers: Leading, pairs: PairsOf<'_>) -> Option<View<'_>>
     requires { keeps_number_rules (content_with kind numbers (Pairs pairs)) ≡ true }
     ensures some { is_some result ≡ true }
-    ensures content { IfSome result (λ v. content_of (record_of v) ≡ content_with kind numbers (Pairs pairs.entry)) }
+    ensures content { IfSome result (λ v. content_of (record_of v)
+        ≡ content_with kind numbers (Pairs pairs.entry)) }
 {
     match kind {
         Kind::Round => Some(View::Round {
@@ -201,7 +205,8 @@ fn view_of_lists<'a>(
 ) -> Option<View<'a>>
     requires { keeps_number_rules (content_with kind numbers (TwoLists labels streets)) ≡ true }
     ensures some { is_some result ≡ true }
-    ensures content { IfSome result (λ v. content_of (record_of v) ≡ content_with kind numbers (TwoLists labels.entry streets.entry)) }
+    ensures content { IfSome result (λ v. content_of (record_of v)
+        ≡ content_with kind numbers (TwoLists labels.entry streets.entry)) }
 {
     match kind {
         Kind::Labels => Some(View::Labels { labels, streets }),

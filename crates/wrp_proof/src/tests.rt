@@ -1,5 +1,5 @@
-// What no clause says: that the definitions read lines as their author means them, and give the places
-// of faults that a person counts.
+// What no clause says: that the definitions read lines as their author means them, and give the
+// places of faults that a person counts.
 
 use crate::{LineFault, read_end, read_record, write_end, write_record};
 use std::alloc::{AllocError, Global};

@@ -74,11 +74,12 @@ pub enum View<'a> {
 /// Why a line has no view. Places count from 0.
 #[derive(Clone, Copy, Debug, PartialEq, Eq, Error)]
 pub enum ViewFault {
-    /// The line isn't in the shape of a record: the longest front of it that is a front of such a line.
+    /// The line isn't in the shape of a record: the longest front of it that is a front of such a
+    /// line.
     #[error("the line leaves its shape at byte {at}")]
     Form { at: u64 },
-    /// A number is written otherwise than it has to be, or out of its range or order: the place of its
-    /// first digit.
+    /// A number is written otherwise than it has to be, or out of its range or order: the place of
+    /// its first digit.
     #[error("a number breaks a rule at byte {at}")]
     Number { at: u64 },
     /// The line has more than 2^28 bytes.

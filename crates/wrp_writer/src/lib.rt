@@ -1,4 +1,5 @@
-//! Proofs as texts: the lines of records and of ends, their lengths, and which records may be written.
+//! Proofs as texts: the lines of records and of ends, their lengths, and which records may be
+//! written.
 #![tactic(auto)]
 
 mod content;

@@ -6,8 +6,8 @@ use crate::writing::{write_end, write_record};
 use std::alloc::{AllocError, Global};
 use wrp_rules::{End, Record};
 
-/// The text of a proof: the line of version 2, the lines of the records and the line of the end, each
-/// followed by a line feed.
+/// The text of a proof: the line of version 2, the lines of the records and the line of the end,
+/// each followed by a line feed.
 ///
 /// # Errors
 ///
