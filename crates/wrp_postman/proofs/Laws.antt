@@ -1,5 +1,5 @@
 -- What the sources tell decides what a check finds, want of memory and faults of a read apart.
-use Rattle.std.proofs.Common.{◌≡◌, ◌∙◌, ℕ, ◌<◌, ◌⊎◌, inl, inr, List, length, Option, Some, IfSome, Ok, Err, refl, sym, ap, subst, arith}
+use Rattle.std.proofs.Common.{◌≡◌, ◌∙◌, ℕ, ◌<◌, ◌⊎◌, inl, inr, List, length, Option, Some, IfSome, refl, sym, ap, subst, arith}
 use Rattle.std.proofs.Math.Bool.{Bool-set}
 use Rattle.std.proofs.Math.Bridge.{le_prop}
 use Rattle.wrp_out.specs.Outside.{Input}
@@ -7,7 +7,7 @@ use Rattle.wrp_town.specs.declared.town.Town.{Town}
 use Rattle.wrp_town.specs.declared.street.Street.{Street}
 use Rattle.wrp_town.specs.Streets.{IsTown}
 use Rattle.wrp_street.specs.declared.table.TableFault.{TableFault}
-use Rattle.wrp_street.specs.Tables.{Table, table_of, table_in}
+use Rattle.wrp_street.specs.Tables.{Table, table_in}
 use Rattle.wrp_check.specs.Verdicts.{Verdict, verdict}
 use Rattle.wrp_check.specs.Verdicts as verdicts
 use Rattle.wrp_postman.specs.declared.status.Status.{Status}
