@@ -14,3 +14,4 @@ pub mod Completeness
 pub mod Passing
 pub mod Bounding
 pub mod Drawing
+mod EndAgrees
