@@ -1,24 +1,17 @@
 -- A bound of a node holds for each closed walk that meets its rows within its box, and where no reduced cost is
 -- negative, for each tour, whatever the upper ends of the box.
-use Rattle.std.proofs.Common.{◌≡◌, ℕ, ◌<◌, ◌≤◌, Bool, true, false, cond, ℤ, pos, ◌+ℤ◌, ◌*ℤ◌, ◌≤ℤ◌, int_lt, int_le, List, Contains, ap, sym, ◌∙◌, subst, arith}
-use Rattle.std.proofs.lemmas.Bool.{false_from_ne_true}
-use Rattle.std.proofs.lemmas.List.Elements.{All-contains}
-use Rattle.std.proofs.lemmas.List.Sums.{AllPass-from_list_all}
-use Rattle.wrp_sums.specs.Sums.{sum_over}
-use Rattle.wrp_sums.specs.Rounding.{ceil_div}
-use Rattle.wrp_sums.specs.Duality.{IsSolution, least_term, reduced_cost}
-use Rattle.wrp_sums.proofs.Integers.{tests, one-*ℤ}
-use Rattle.wrp_sums.proofs.SumsOver.{sum_over-same}
+use Rattle.std.proofs.Common.{◌≡◌, ℕ, ◌<◌, ◌≤◌, true, ℤ, pos, ◌≤ℤ◌, List, Contains, sym, subst, arith}
+use Rattle.wrp_sums.specs.Duality.{IsSolution}
+use Rattle.wrp_sums.proofs.Integers.{one-*ℤ}
 use Rattle.wrp_sums.proofs.WeakDuality.{whole_weak_duality}
 use Rattle.wrp_town.specs.declared.street.Step.{Step}
 use Rattle.wrp_town.specs.declared.town.Town.{Town}
 use Rattle.wrp_town.specs.Arcs.{legal_arcs}
-use Rattle.wrp_town.specs.Walks.{is_closed_walk, is_tour, walk_cost, count_of}
-use Rattle.wrp_town.proofs.WalkLaws.{tour_closed}
-use Rattle.wrp_rules.specs.Rows.{Row, base_rows, row_at}
+use Rattle.wrp_town.specs.Walks.{is_closed_walk, walk_cost, count_of}
+use Rattle.wrp_rules.specs.Rows.{Row, row_at}
 use Rattle.wrp_rules.specs.Nodes.{Node, program, bound_value}
 use Rattle.wrp_laws.specs.Meets.{sum_of_uses, MeetsRow}
-use Rattle.wrp_laws.proofs.BaseRows.{meets_base_row, cost_of_uses}
+use Rattle.wrp_laws.proofs.BaseRows.{cost_of_uses}
 
 -- ---- a closed walk in the box
 

@@ -1,9 +1,9 @@
 -- The least bound of a valid list is at most the cost of every tour.
-use Rattle.std.proofs.Common.{◌≡◌, ℕ, zero, suc, ◌+◌, ◌*◌, ◌^◌, ◌<◌, ◌≤◌, min, Bool, true, false, cond, ◌&&◌, ◌||◌, not, ◌==◌, nat_le, List, [], ◌∷◌, ◌++◌, length, get_or, filter, Option, None, Some, is_none, IfSome, ℤ, pos, ◌≤ℤ◌, ◌<ℤ◌, int_lt, ap, refl, sym, ◌∙◌, subst, inl, inr, ◌⊎◌, ⊎_elim, arith, Contains}
+use Rattle.std.proofs.Common.{◌≡◌, ℕ, zero, suc, ◌+◌, ◌*◌, ◌^◌, ◌<◌, ◌≤◌, min, Bool, true, false, cond, ◌&&◌, ◌||◌, not, ◌==◌, List, [], ◌∷◌, ◌++◌, length, get_or, filter, Option, None, Some, is_none, IfSome, ℤ, pos, ◌≤ℤ◌, ◌<ℤ◌, int_lt, ap, refl, sym, ◌∙◌, subst, inl, inr, ◌⊎◌, ⊎_elim, arith, Contains}
 use Rattle.std.specs.Option.{option_map, option_map_or, option_or}
 use Rattle.std.specs.Int.{int_min}
 use Rattle.std.specs.List.{list_all, range_with_len}
-use Rattle.std.proofs.lemmas.Bool.{and_parts, and_from, or_cases, eqb-true, leb-true, ltb-true, cases_eq, cases_lt, true≢false, not-true}
+use Rattle.std.proofs.lemmas.Bool.{and_parts, and_from, or_cases, eqb-true, ltb-true, cases_eq, cases_lt, true≢false, not-true}
 use Rattle.std.proofs.lemmas.List.FromFn.{get_or-range_with_len, length-range_with_len}
 use Rattle.wrp_sums.proofs.Integers.{linear, tests}
 use Rattle.wrp_sums.proofs.FirstNumbers.{passes_of_inside, inside_filter}

@@ -1,5 +1,5 @@
 -- The rules that a record keeps after a list of records, each record's in their order.
-use Rattle.std.specs.Prelude.{ℕ, ◌-◌, ◌*◌, ◌%◌, ◌^◌, Bool, true, false, cond, ◌&&◌, ◌||◌, not, if◌then◌else◌, ◌==◌, nat_lt, nat_le, ℤ, pos, int_lt, int_le, List, [], ◌∷◌, map, length, slice_index, slice_get, Option, None, Some}
+use Rattle.std.specs.Prelude.{ℕ, ◌*◌, ◌%◌, Bool, true, false, cond, ◌&&◌, ◌||◌, not, if◌then◌else◌, ◌==◌, nat_lt, nat_le, ℤ, pos, int_lt, int_le, List, [], ◌∷◌, length, slice_index, slice_get, Option, None, Some}
 use Rattle.std.specs.Option.{option_map_or}
 use Rattle.std.specs.List.{filter, list_any, list_all, sum_by, count_by, last_or}
 use Rattle.wrp_sums.specs.Rounding.{ceil_div}
