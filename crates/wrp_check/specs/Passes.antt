@@ -5,7 +5,7 @@ use Rattle.wrp_town.specs.declared.town.Town.{Town}
 use Rattle.wrp_rules.specs.declared.record.End.{End}
 use Rattle.wrp_rules.specs.declared.rule.Rule.TheVariants as rules
 use Rattle.wrp_rules.specs.Nodes.{Standing, start}
-use Rattle.wrp_rules.specs.Proofs.{version_2}
+use Rattle.wrp_rules.specs.Proofs.{version_2, line_feed}
 use Rattle.wrp_check.specs.declared.pass.CheckFault.{CheckFault}
 use Rattle.wrp_check.specs.declared.pass.CheckFault.TheVariants as faults
 use Rattle.wrp_check.specs.declared.pass.Progress.{Progress}
@@ -18,7 +18,7 @@ use Rattle.wrp_check.specs.Judging.{IsReady, Stands}
 
 -- a line with its line feed was handed out, and is not too long
 pub record TakesLine (limit : ℕ) (old new : Buffered) (before after : Input) : Type 0 where
-  pub took : Took (ahead old before) (ahead new after) (new.line ++ 10 ∷ [])
+  pub took : Took (ahead old before) (ahead new after) (new.line ++ line_feed ∷ [])
   pub one_line : is_one_line new.line ≡ true
   pub short : is_long limit old.taken new.line (length new.line + 1) ≡ false
   pub taken : new.taken ≡ old.taken + (length new.line + 1)

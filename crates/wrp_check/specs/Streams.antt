@@ -2,7 +2,7 @@
 use Rattle.std.specs.Prelude.{◌≡◌, ℕ, ◌+◌, ◌-◌, ◌<◌, ◌≤◌, ◌^◌, ◌⊎◌, ◌↔◌, min, Bool, true, not, ◌==◌, IsTrue, List, [], ◌∷◌, ◌++◌, length, take, drop}
 use Rattle.std.specs.Option.{option_map}
 use Rattle.std.specs.List.{list_all, prefix_len}
-use Rattle.wrp_rules.specs.Proofs.{most_bytes}
+use Rattle.wrp_rules.specs.Proofs.{most_bytes, line_feed}
 use Rattle.wrp_out.specs.Outside.{Input, Tells, Took}
 use Rattle.wrp_check.specs.declared.lines.Ending.{Ending}
 use Rattle.wrp_check.specs.declared.lines.Ending.TheVariants as endings
@@ -50,11 +50,11 @@ ahead lines source = record source { left = option_map (λ left. lines.pending +
 
 -- no byte of the line is a line feed
 abbrev pub is_one_line : List ℕ → Bool
-is_one_line line = list_all (λ byte. not (byte == 10)) line
+is_one_line line = list_all (λ byte. not (byte == line_feed)) line
 
 -- how many bytes stand before the first line feed, or all where there is none
 abbrev pub line_len : List ℕ → ℕ
-line_len bytes = prefix_len (λ byte. not (byte == 10)) bytes
+line_len bytes = prefix_len (λ byte. not (byte == line_feed)) bytes
 
 -- the first line of the bytes is above the limit, or with its line feed passes the greatest number
 abbrev pub PassesLimit : ℕ → ℕ → List ℕ → Type 0
@@ -63,7 +63,7 @@ PassesLimit limit taken bytes =
 
 -- a line and what ended it: a line feed, or the end of the input
 abbrev pub ended_by : Ending → List ℕ → List ℕ
-ended_by endings.Feed line = line ++ 10 ∷ []
+ended_by endings.Feed line = line ++ line_feed ∷ []
 ended_by endings.Input line = line
 
 -- where a line ended with the input, nothing is left

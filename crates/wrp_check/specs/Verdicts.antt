@@ -12,7 +12,7 @@ use Rattle.wrp_rules.specs.declared.record.End.{End}
 use Rattle.wrp_rules.specs.declared.rule.Rule.{Rule}
 use Rattle.wrp_rules.specs.declared.rule.Rule.TheVariants as rules
 use Rattle.wrp_rules.specs.Nodes.{Standing, start, after}
-use Rattle.wrp_rules.specs.Proofs.{version_1, version_2}
+use Rattle.wrp_rules.specs.Proofs.{version_1, version_2, line_feed}
 use Rattle.wrp_check.specs.declared.pass.CheckFault.{CheckFault}
 use Rattle.wrp_check.specs.declared.pass.CheckFault.TheVariants as faults
 use Rattle.wrp_rules.specs.Proofs.{most_bytes}
@@ -114,7 +114,7 @@ verdict_along town place line (next ∷ others) =
 
 -- the lines of these bytes: what stands between line feeds
 abbrev pub is_feed : ℕ → Bool
-is_feed byte = byte == 10
+is_feed byte = byte == line_feed
 
 abbrev pub lines_in : List ℕ → List (List ℕ)
 lines_in bytes = slice_split is_feed bytes

@@ -1,5 +1,6 @@
 //! What the checker keeps of the records so far, and its judgement of one more.
 ghost use Rattle.std.specs.Prelude.{◌≡◌, ◌≤◌, ◌^◌, ◌==◌, true, false, pos, length, IfOk};
+ghost use Rattle.wrp_rules.specs.Proofs.{longest_line};
 ghost use Rattle.wrp_town.specs.declared.town.Town.{Town};
 ghost use Rattle.wrp_rules.specs.declared.record.Record.TheVariants.{Tour, Bound};
 ghost use Rattle.wrp_rules.specs.Nodes.{Standing, start, is_below};
@@ -51,7 +52,7 @@ impl Judge {
     #[tactic(auto, using(wrp_proof::proofs::SpelledLaws::spelled_viewed))]
     pub(crate) fn take(&mut self, town: &Town, line: &[u8]) -> Option<Rule>
         requires ready { IsReady town.now self.old }
-        requires short { length line.now ≤ 2 ^ 28 }
+        requires short { length line.now ≤ longest_line }
         ensures ready { IsReady town.now self.new }
         ensures judges { (s : Standing) → Stands town.now s self.old
             → Judges town.now s (judged_line town.now s line.now) result self.new }
@@ -81,7 +82,7 @@ impl Judge {
 
     /// The end of an end line, or the rule that the line breaks.
     pub(crate) fn end(&self, line: &[u8]) -> Result<End, Rule>
-        requires { length line.now ≤ 2 ^ 28 }
+        requires { length line.now ≤ longest_line }
         ensures { (town : Town) (s : Standing) → Stands town s self.now
             → judged_end s line.now ≡ result }
     {

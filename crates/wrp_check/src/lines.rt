@@ -1,7 +1,7 @@
 //! A reader of the lines of a source, which holds one line and a chunk of the bytes behind it.
 ghost use Rattle.std.specs.Prelude.{◌≡◌, ◌≢◌, ◌+◌, ◌-◌, ◌<◌, ◌≤◌, ◌^◌, ◌⊎◌, [], length, take, min, position, ◌==◌, IsTrue, IfOk, IfSome, OnErr, IsErrOf};
 ghost use Rattle.wrp_out.specs.Outside.{Tells, Took, FaultRose, ReadFailed};
-ghost use Rattle.wrp_rules.specs.Proofs.{version_2};
+ghost use Rattle.wrp_rules.specs.Proofs.{version_2, line_feed};
 ghost use Rattle.wrp_rules.specs.Proofs.{most_bytes};
 ghost use Rattle.wrp_check.specs.Streams.{Draws, HandsOut, PassesLimit, Peeks, PieceTooLong, TakesPiece, ahead, drawn, line_len};
 ghost use Rattle.wrp_check.specs.declared.lines.LinesFault.TheVariants.{TooLong, Read, Memory};
@@ -247,7 +247,7 @@ fn line_length(bytes: &[u8]) -> usize
 
 /// Where the first line feed stands.
 fn feed_at(bytes: &[u8]) -> Option<usize>
-    ensures { result ≡ position (λ byte. byte == 10) bytes.now }
+    ensures { result ≡ position (λ byte. byte == line_feed) bytes.now }
 {
     bytes.iter().position(|byte| *byte == b'\n')
 }

@@ -6,9 +6,25 @@ use Rattle.std.specs.Str.Parse.{digits_value}
 use Rattle.wrp_town.specs.declared.street.Step.{Step}
 use Rattle.wrp_rules.specs.Ranges.{is_index, is_count, is_from_one, is_set, are_pairs, are_multipliers}
 
+-- the bytes of a line that aren't digits, and the digit zero
+abbrev pub space : ℕ
+space = 32
+
+abbrev pub colon : ℕ
+colon = 58
+
+abbrev pub plus : ℕ
+plus = 43
+
+abbrev pub minus : ℕ
+minus = 45
+
+abbrev pub zero_digit : ℕ
+zero_digit = 48
+
 -- a byte that stands before each part
 abbrev pub is_space : ℕ → Bool
-is_space byte = byte == 32
+is_space byte = byte == space
 
 -- the parts of what is left of a line, a space before each part
 abbrev pub parts_of : List ℕ → List (List ℕ)
@@ -26,7 +42,8 @@ is_digits part = nat_lt 0 (length part) && list_all is_ascii_digit part
 
 -- one or more digits, without a leading zero
 abbrev pub is_number : List ℕ → Bool
-is_number part = is_digits part && (nat_le (length part) 1 || not (slice_index part 0 == 48))
+is_number part = is_digits part
+    && (nat_le (length part) 1 || not (slice_index part 0 == zero_digit))
 
 -- the value of the digits
 abbrev pub number_of : List ℕ → ℕ
@@ -58,7 +75,7 @@ abbrev pub sign_of : List ℕ → ℕ
 sign_of part = slice_index part (length part - 1)
 
 abbrev pub is_sign : ℕ → Bool
-is_sign byte = (byte == 43) || (byte == 45)
+is_sign byte = (byte == plus) || (byte == minus)
 
 -- a step in its shape, and one that is written right
 abbrev pub is_step_shape : List ℕ → Bool
@@ -70,11 +87,11 @@ is_step part = is_sign (sign_of part) && (is_number (street_part part)
 
 -- the step that a part spells
 abbrev pub step_of : List ℕ → Step
-step_of part = record { street = number_of (street_part part); back = sign_of part == 45 }
+step_of part = record { street = number_of (street_part part); back = sign_of part == minus }
 
 -- what stands before the colon of a pair, and after it
 abbrev pub is_colon : ℕ → Bool
-is_colon byte = byte == 58
+is_colon byte = byte == colon
 
 abbrev pub first_half : List ℕ → List ℕ
 first_half part = before_first is_colon part

@@ -1,4 +1,4 @@
-//! The numbers of a line that are still to be read, lent from the line. Nothing here takes memory.
+//! The numbers of a line that are still to be read, lent from the line.
 ghost use Rattle.std.specs.Prelude.{nat_le, ◌+◌, Some, None, if◌then◌else◌, ◌≡◌, ◌&&◌, ◌∷◌, [], map, IfSome, IfNone};
 ghost use Rattle.std.specs.Fmt.{decimal};
 ghost use Rattle.std.specs.Iterator.{YieldsFirst, item_count};

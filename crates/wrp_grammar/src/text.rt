@@ -1,4 +1,4 @@
-//! The parts of a line, read from its bytes. Nothing here takes memory.
+//! The parts of a line, read from its bytes.
 ghost use Rattle.std.specs.Prelude.{◌≡◌, ◌<◌, ◌≤◌, ◌+◌, ◌^◌, nat_lt, ◌==◌, true, ◌&&◌, ◌∷◌, ◌++◌, [], length, nat_le, IfSome, IfNone, Some, None, if◌then◌else◌};
 ghost use Rattle.std.specs.List.{position_or_len, slice_split, list_all};
 ghost use Rattle.std.specs.Char.{is_ascii_digit};

@@ -2,6 +2,7 @@
 use Rattle.std.specs.Prelude.{◌≡◌, ⊤, ℕ, ◌^◌, ◌≤◌, ◌<◌, Bool, true, false, ◌&&◌, nat_lt, ◌==◌, List, [], ◌∷◌, length, codes, None}
 use Rattle.std.specs.List.{list_any, list_all}
 use Rattle.std.specs.Str.{bytes_eq}
+use Rattle.wrp_rules.specs.Proofs.{longest_line}
 use Rattle.wrp_rules.specs.declared.layout.Kind.{Kind}
 use Rattle.wrp_rules.specs.declared.record.Record.{Record}
 use Rattle.wrp_rules.specs.declared.record.Record.TheVariants.{Tour, Conn, Odd, Round, Kc, Bound, Empty, Apart, Point, Blind, Split, Labels}
@@ -67,12 +68,12 @@ pub record IsLineOf (item : Record) (line : List ℕ) : Type 0 where
 -- longest front, else Number, at the first number that breaks a rule
 abbrev pub IsFaultIn : List Kind → List ℕ → ViewFault → Type 0
 IsFaultIn kinds line (faults.Form at) =
-    (length line ≤ 2 ^ 28) × (is_of_kinds kinds line ≡ false) × (at ≤ length line)
+    (length line ≤ longest_line) × (is_of_kinds kinds line ≡ false) × (at ≤ length line)
     × IsLongestFront (is_of_kinds kinds) line at
 IsFaultIn kinds line (faults.Number at) =
-    (length line ≤ 2 ^ 28) × (is_of_kinds kinds line ≡ true) × (at ≤ length line)
+    (length line ≤ longest_line) × (is_of_kinds kinds line ≡ true) × (at ≤ length line)
     × IsFirstBadNumber kinds line at
-IsFaultIn kinds line faults.Long = 2 ^ 28 < length line
+IsFaultIn kinds line faults.Long = longest_line < length line
 
 abbrev pub IsFaultOf : List ℕ → ViewFault → Type 0
 IsFaultOf line fault = IsFaultIn record_kinds line fault

@@ -1,5 +1,6 @@
 //! Reads the lines of ends.
 ghost use Rattle.std.specs.Prelude.{codes, ◌≡◌, ◌^◌, ◌≤◌, length, is_some, true, IfOk, IfErr, IfSome, IfNone, Some, None};
+ghost use Rattle.wrp_rules.specs.Proofs.{longest_line};
 ghost use Rattle.wrp_rules.specs.Layouts.{end_kinds};
 ghost use Rattle.wrp_rules.specs.Contents.{content_of_end, keeps_number_rules};
 ghost use Rattle.wrp_grammar.specs.Reading.{content_held};
@@ -20,10 +21,11 @@ use wrp_rules::{End, Kind, LONGEST_LINE};
 /// Form, Number or Long, never Memory.
 pub fn read_end(line: &[u8]) -> Result<End, LineFault>
     ensures spelled { IfOk result (λ end. spelled_end line.now ≡ Some end) }
-    ensures short { IfOk result (λ end. length line.now ≤ 2 ^ 28) }
+    ensures short { IfOk result (λ end. length line.now ≤ longest_line) }
     ensures fault { IfErr result (λ fault. IsEndFault line.now fault) }
     // No end is spelled by a line that is refused, unless it is long.
-    ensures none { IfErr result (λ fault. length line.now ≤ 2 ^ 28 → spelled_end line.now ≡ None) }
+    ensures none { IfErr result (λ fault. length line.now ≤ longest_line
+        → spelled_end line.now ≡ None) }
 {
     if line.len() > LONGEST_LINE {
         return Err(LineFault::Long);

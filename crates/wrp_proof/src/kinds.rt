@@ -1,6 +1,7 @@
 //! The kinds of the lines of records and of ends, and the faults of lines that are none of theirs.
 ghost use Rattle.std.specs.Prelude.{◌≡◌, ◌∷◌, ◌++◌, ℕ, ◌<◌, ◌^◌, ◌≤◌, [], List, Some, None, nat_eq, true, false, length, IfSome, IfNone};
 ghost use Rattle.std.specs.List.{starts_with};
+ghost use Rattle.wrp_rules.specs.Proofs.{longest_line};
 ghost use Rattle.wrp_rules.specs.Layouts.{layout_of as layout_of_kind, record_kinds, end_kinds};
 ghost use Rattle.wrp_grammar.specs.Spelling.{content_in, content_behind};
 ghost use Rattle.wrp_grammar.specs.Numbers.{is_right_line};
@@ -93,7 +94,7 @@ fn behind_word(kind: Kind, line: &[u8]) -> Option<&[u8]>
 /// The fault of a line that is none of these kinds, or whose numbers break a rule.
 pub(crate) fn fault_in(kinds: &[Kind], line: &[u8]) -> ViewFault
     requires some { 0 < length kinds.now }
-    requires short { length line.now ≤ 2 ^ 28 }
+    requires short { length line.now ≤ longest_line }
     requires wrong { is_right_line kinds.now line.now ≡ false }
     ensures { IsFaultIn kinds.now line.now result }
 {

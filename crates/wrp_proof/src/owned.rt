@@ -1,5 +1,6 @@
 //! Reads records with lists of their own.
 ghost use Rattle.std.specs.Prelude.{◌≡◌, ◌^◌, ◌≤◌, true, Some, length, IfOk, IfErr};
+ghost use Rattle.wrp_rules.specs.Proofs.{longest_line};
 ghost use Rattle.wrp_rules.specs.declared.record.Record.{Record};
 ghost use Rattle.wrp_proof.specs.declared.fault.LineFault.TheVariants as faults;
 ghost use Rattle.wrp_grammar.specs.Spelling.{spelled as record_spelled};
@@ -19,7 +20,7 @@ use wrp_rules::Record;
 /// Form, Number or Long as of the line's view, or Memory.
 pub fn read_record(alloc: Global, line: &[u8]) -> Result<Record, LineFault>
     ensures spelled { IfOk result (λ item. record_spelled line.now ≡ Some item) }
-    ensures short { IfOk result (λ item. length line.now ≤ 2 ^ 28) }
+    ensures short { IfOk result (λ item. length line.now ≤ longest_line) }
     ensures fault { IfErr result (λ fault. IsLineFaultOf line.now fault) }
     // No record is spelled by a line that is refused, unless it is long or memory is wanting.
     ensures none { IfErr result (λ fault. IsWithoutRecord line.now fault) }

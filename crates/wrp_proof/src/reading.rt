@@ -1,5 +1,6 @@
 //! Reads the lines of records.
 ghost use Rattle.std.specs.Prelude.{◌≡◌, ◌^◌, ◌≤◌, Some, None, true, is_some, length, IfOk, IfErr, IfSome, IfNone};
+ghost use Rattle.wrp_rules.specs.Proofs.{longest_line};
 ghost use Rattle.wrp_rules.specs.Layouts.{record_kinds};
 ghost use Rattle.wrp_rules.specs.Contents.{NoItems, Steps, Numbers, Pairs, TwoLists, content_of, keeps_number_rules};
 ghost use Rattle.wrp_grammar.specs.Reading.{content_held, content_with};
@@ -33,10 +34,11 @@ use wrp_rules::{Kind, LONGEST_LINE};
 /// record, and else `Number`.
 pub fn view(line: &[u8]) -> Result<View<'_>, ViewFault>
     ensures spelled { IfOk result (λ v. spelled line.now ≡ Some (record_of v)) }
-    ensures short { IfOk result (λ v. length line.now ≤ 2 ^ 28) }
+    ensures short { IfOk result (λ v. length line.now ≤ longest_line) }
     ensures fault { IfErr result (λ fault. IsFaultOf line.now fault) }
     // No record is spelled by a line that is refused, unless it is long.
-    ensures none { IfErr result (λ fault. length line.now ≤ 2 ^ 28 → spelled line.now ≡ None) }
+    ensures none { IfErr result (λ fault. length line.now ≤ longest_line
+        → spelled line.now ≡ None) }
 {
     if line.len() > LONGEST_LINE {
         return Err(ViewFault::Long);

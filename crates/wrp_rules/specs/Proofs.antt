@@ -20,9 +20,17 @@ version_1 = record { line = codes "postman-proof 1"; limit = 2 ^ 24 }
 abbrev pub version_2 : Version
 version_2 = record { line = codes "postman-proof 2"; limit = 2 ^ 28 }
 
+-- the greatest length of the line of a record or of an end
+abbrev pub longest_line : ℕ
+longest_line = version_2.limit
+
+-- the byte that ends a line
+abbrev pub line_feed : ℕ
+line_feed = 10
+
 -- a line and its line feed
 abbrev pub ended : List ℕ → List ℕ
-ended line = line ++ 10 ∷ []
+ended line = line ++ line_feed ∷ []
 
 -- the lines of a list of records
 abbrev pub record_lines : List Record → List ℕ

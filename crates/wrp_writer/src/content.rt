@@ -1,4 +1,4 @@
-//! What stands in a line, lent from its record or its end. Nothing here takes memory.
+//! What stands in a line, lent from its record or its end.
 ghost use Rattle.std.specs.Prelude.{◌≡◌};
 ghost use Rattle.wrp_rules.specs.Contents.{Numbers as NumberItems, Pairs as PairItems, content_of as content_of_record, content_of_end as content_of_the_end};
 ghost use Rattle.wrp_writer.specs.Seen.{content_seen, items_seen};

@@ -1,4 +1,4 @@
-//! The length of a line, which is not written for it. Nothing here takes memory.
+//! The length of a line, which is not written for it.
 ghost use Rattle.std.specs.Prelude.{◌≡◌, ◌≤◌, length};
 ghost use Rattle.std.specs.Fmt.{decimal};
 ghost use Rattle.wrp_rules.specs.Lines.{line_with};

@@ -1,5 +1,5 @@
 //! Proofs as texts: the lines of records and of ends, their lengths, and which records may be
-//! written.
+//! written. Only what writes takes memory.
 #![tactic(auto)]
 
 mod content;

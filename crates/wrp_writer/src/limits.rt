@@ -1,4 +1,4 @@
-//! Whether a record may stand in a proof. Nothing here takes memory.
+//! Whether a record may stand in a proof.
 ghost use Rattle.std.specs.Prelude.{◌≡◌};
 ghost use Rattle.std.specs.List.{list_all};
 ghost use Rattle.wrp_rules.specs.Contents.{keep_rules as keep_their_rules, keeps_number_rules as keeps_its_rules};

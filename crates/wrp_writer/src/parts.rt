@@ -1,4 +1,4 @@
-//! The parts behind the word of a line, one by one. Nothing here takes memory.
+//! The parts behind the word of a line, one by one.
 ghost use Rattle.std.specs.Prelude.{◌≡◌, ◌+◌, ◌-◌, ◌<◌, ◌≤◌, ◌^◌, [], length, get_or};
 ghost use Rattle.wrp_rules.specs.Contents.{TwoLists};
 ghost use Rattle.wrp_rules.specs.Lines.{item_parts};
