@@ -1,0 +1,14 @@
+pub mod Spans
+pub mod Combined
+pub mod Terms
+pub mod Demands
+pub mod Ranges
+pub mod Chained
+pub mod Kept
+pub mod Rounded
+pub mod Made
+pub mod BaseRows
+pub mod Stored
+pub mod Searched
+pub mod Shared
+pub mod RowLaws

@@ -1,0 +1,10 @@
+pub mod Pools
+pub mod Sizes
+pub mod Tables
+pub mod Marks
+pub mod Patterns
+pub mod Chains
+pub mod Making
+pub mod Base
+pub mod Stores
+pub mod Points
