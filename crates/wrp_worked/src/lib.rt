@@ -1,6 +1,6 @@
 //! Worked towns: what the definitions and the calls of the project answer where a person knows the
 //! answer. The files of `proofs/` work out lists of records by computation, and the tests call the
-//! street network.
+//! street network, rows and bounds.
 #![tactic(auto)]
 
 ghost use Rattle.std.specs.Prelude.{◌≡◌, true, List};
@@ -11,6 +11,8 @@ ghost use Rattle.wrp_rules.specs.Nodes.{standing};
 ghost use Rattle.wrp_rules.specs.Lists.{is_valid, agrees};
 ghost use Rattle.wrp_rules.specs.Judged.{are_judged};
 
+#[cfg(test)]
+mod row_tests;
 #[cfg(test)]
 mod tests;
 
