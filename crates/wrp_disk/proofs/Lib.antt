@@ -1,0 +1,3 @@
+pub mod Time
+mod MemoryCalls
+mod Kept
