@@ -1,0 +1,13 @@
+pub mod Gates
+pub mod Edits
+pub mod Parted
+pub mod Written
+pub mod Adding
+pub mod Appended
+pub mod Beginning
+pub mod Stepping
+pub mod Reading
+pub mod Opened
+pub mod Upgrading
+pub mod Reached
+pub mod SoundFacts

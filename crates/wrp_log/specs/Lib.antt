@@ -1,0 +1,5 @@
+pub mod Payloads
+pub mod Logs
+pub mod Steps
+pub mod Replays
+pub mod Sound
