@@ -56,6 +56,10 @@ pub record Passes (P : List ℕ → Type 0) (old new : Meaning) : Type 0 where
   pub faults : NeverFalls old.faults new.faults
   pub limit : new.limit ≡ old.limit
 
+-- time passes over calls, and nothing more is said of what a crash leaves
+abbrev pub Lasts : Meaning → Meaning → Type 0
+Lasts old new = Passes (λ _. Unit {0}) old new
+
 -- at each moment since old a crash leaves what has P
 pub record AtEachMoment (P : List ℕ → Type 0) (old new : Meaning) : Type 0 where
   pub each : (c : List ℕ) → new.since old.moment c → P c

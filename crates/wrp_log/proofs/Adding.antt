@@ -8,7 +8,7 @@ use Rattle.std.specs.Prelude.{IfSome, IsSome, Result, Ok, Err, OnOk, OnErr}
 use Rattle.byteorder.specs.Endian.{big_bytes, big_number}
 use Rattle.byteorder.specs.Numbers.{big_number-reads_back, length-bytes_high_first}
 use Rattle.std.specs.Option.{option_map}
-use Rattle.wrp_disk.specs.Disks.{Meaning, IsLawful, Passes, EachImage, Torn, put_at, torn_images, Syncs, Writes}
+use Rattle.wrp_disk.specs.Disks.{Meaning, IsLawful, Passes, EachImage, Torn, put_at, torn_images, Syncs, Writes, Lasts}
 use Rattle.wrp_disk.proofs.Time.{passes_then, passes_weaker}
 use Rattle.wrp_log.specs.Payloads.{payload_limit, IsWritten, gate_after}
 use Rattle.wrp_log.specs.Logs.{IsBeforeOrAfter, IsBlock}
@@ -58,10 +58,10 @@ pub reads_size : (n : ℕ) → n < 2 ^ 32 → big_number 4 (big_bytes 4 n) ≡ n
 reads_size n small = ap (λ (l : List ℕ). big_number 4 l) (sym (append-nil (big_bytes 4 n))) ∙ big_number-reads_back 4 n [] (omega (arith, small))
 
 -- any run of calls of which nothing is promised
-pub lasts : (old new : Meaning) (P : List ℕ → Type 0) → Passes P old new → Passes (λ _. Unit {0}) old new
+pub lasts : (old new : Meaning) (P : List ℕ → Type 0) → Passes P old new → Lasts old new
 lasts old new P time = passes_weaker P (λ _. Unit {0}) old new (λ c has. record {}) time
 
-pub lasts_then : (old mid new : Meaning) (P : List ℕ → Type 0) → Passes (λ _. Unit {0}) old mid → Passes P mid new → Passes (λ _. Unit {0}) old new
+pub lasts_then : (old mid new : Meaning) (P : List ℕ → Type 0) → Lasts old mid → Passes P mid new → Lasts old new
 lasts_then old mid new P one two = passes_then (λ _. Unit {0}) old mid new one (lasts mid new P two)
 
 module _ (version : ℕ) (payloads : List (List ℕ)) (payload : List ℕ) (gate : ℕ) (place : gate ≡ gate_after payloads) (block : List ℕ) (is_block : IsBlock version payload block) where

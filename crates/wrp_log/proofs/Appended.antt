@@ -3,7 +3,7 @@ use Rattle.std.proofs.Common.{◌≡◌, inl, ℕ, ◌+◌, ◌≤◌, List, [],
 use Rattle.std.specs.Prelude.{IfSome, IsSome, is_some, false}
 use Rattle.std.specs.Option.{option_map}
 use Rattle.std.proofs.lemmas.List.{length_push, take-append-le}
-use Rattle.wrp_disk.specs.Disks.{Meaning, IsLawful, Passes, AtEachMoment, EachImage}
+use Rattle.wrp_disk.specs.Disks.{Meaning, IsLawful, Passes, AtEachMoment, EachImage, Lasts}
 use Rattle.wrp_disk.proofs.Time.{passes_none, at_each}
 use Rattle.wrp_log.specs.Payloads.{IsWritten, gate_after, list_of, ok_or_none}
 use Rattle.wrp_log.specs.Logs.{Place, IsBeforeOrAfter, IsAt, IsOn, Stands, list_told, added_to}
@@ -48,7 +48,7 @@ module _ (log : Place) (old : Meaning) (lawful : IsLawful old) (begun : log.fres
   untouched payload = any_moment payload old (λ bytes is at. passes_none _ old)
 
 -- where each image stands for a list that was made of the old one
-module _ (log later : Place) (old new : Meaning) (lawful_new : IsLawful new) (lasts : Passes (λ _. Unit {0}) old new) (on : IsOn log old) (grown : List (List ℕ) → List (List ℕ))
+module _ (log later : Place) (old new : Meaning) (lawful_new : IsLawful new) (lasts : Lasts old new) (on : IsOn log old) (grown : List (List ℕ) → List (List ℕ))
     (written : (bytes : List ℕ) → old.told ≡ Some bytes → IsAt log (list_of bytes) old → EachImage (IsWritten later.version (grown (list_of bytes))) new) where
   images : IfSome old.told (λ bytes. IsAt log (list_of bytes) old × EachImage (IsWritten later.version (grown (list_of bytes))) new)
   images = told_case old.told (λ bytes is at. (at, written bytes is at)) on.settled

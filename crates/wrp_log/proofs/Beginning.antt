@@ -2,7 +2,7 @@
 use Rattle.std.proofs.Common.{◌≡◌, ℕ, ◌≤◌, List, [], ◌∷◌, ◌++◌, length, take, refl, sym, ◌∙◌, ap, subst, arith, Option, Some, None}
 use Rattle.std.specs.Prelude.{IfSome, IsSome, is_some, true, false}
 use Rattle.std.proofs.lemmas.List.{drop_all, append-nil}
-use Rattle.wrp_disk.specs.Disks.{Meaning, IsLawful, Passes, AtEachMoment, EachImage, put_at, torn_images, Syncs, Writes}
+use Rattle.wrp_disk.specs.Disks.{Meaning, IsLawful, Passes, AtEachMoment, EachImage, put_at, torn_images, Syncs, Writes, Lasts}
 use Rattle.wrp_disk.proofs.Time.{passes_then, passes_weaker, at_each}
 use Rattle.wrp_log.specs.Payloads.{gates, payloads_of, gate_after, IsWritten, StandsFor, list_of, ok_or_none}
 use Rattle.wrp_log.specs.Logs.{Place, IsAt, IsOn}
@@ -53,7 +53,7 @@ module _ (log : Place) (old : Meaning) (lawful : IsLawful old) (fresh : log.fres
 
   -- once begun, whatever the rest of the log's place was
   pub begun_on : (later : Place) (new : Meaning) → later.fresh ≡ false → later.version ≡ 2 → later.count ≡ 0 → later.gate ≡ 8 → later.limit ≡ log.limit → later.replayed ≡ 0 → later.next ≡ 8
-      → IsLawful new → Passes (λ _. Unit {0}) old new → (IsSome old.told → EachImage (λ c. length c ≤ 9) old → EachImage (IsWritten 2 []) new) → IsOn later new
+      → IsLawful new → Lasts old new → (IsSome old.told → EachImage (λ c. length c ≤ 9) old → EachImage (IsWritten 2 []) new) → IsOn later new
   begun_on later new is_begun version count gate limit replayed next lawful_new lasts written = record {
     limit = limit ∙ on.limit ∙ sym lasts.limit;
     settled = at_case new.told lasts.tells lawful_new.honest;

@@ -2,8 +2,7 @@
 use Rattle.std.proofs.Common.{◌≡◌, ℕ, ◌<◌, ◌≤◌, List, [], length, take, sym, ◌∙◌, ap, subst, arith, Ok, true, false}
 use Rattle.std.specs.Prelude.{IfSome, nat_le}
 use Rattle.std.proofs.lemmas.Bool.Decides.{nat_tests}
-use Rattle.wrp_disk.specs.Disks.{Meaning, IsLawful, Passes, AtEachMoment, Looks, Syncs}
-use Rattle.wrp_disk.proofs.Time.{passes_then, passes_weaker, at_each}
+use Rattle.wrp_disk.specs.Disks.{Meaning, Looks, Syncs}
 use Rattle.wrp_log.specs.Payloads.{payloads_of, version_of, IsWritten, gate_after, list_of, ok_or_none}
 use Rattle.wrp_log.specs.Logs.{Place, IsAt, IsOn}
 use Rattle.wrp_log.specs.Steps.{PlaceIs, Opens}
@@ -49,14 +48,8 @@ in_begun log bytes begun replayed next (payloads, written, count, gate) = record
 
 -- after the first sync the bytes are the only image, and what comes after only looks
 module _ (old one last : Meaning) (syncs : Syncs old one) (looks : Looks one last) where
-  pub open_told : last.told ≡ old.told
+  open_told : last.told ≡ old.told
   open_told = looks.told ∙ syncs.told
-
-  pub open_time : Passes old.image old last
-  open_time = passes_then old.image old one last syncs.time (passes_weaker one.image old.image one last syncs.image looks.time)
-
-  pub open_moments : IsLawful old → AtEachMoment old.image old last
-  open_moments lawful = at_each old.image old last lawful (λ c is. is) open_time
 
   at_log : (log : Place) (bytes : List ℕ) → ((c : List ℕ) → one.image c → c ≡ bytes) → IsIn log bytes → IsAt log (list_of bytes) last
   at_log log bytes only is_in =
@@ -75,10 +68,6 @@ module _ (old one last : Meaning) (syncs : Syncs old one) (looks : Looks one las
     limit = limit ∙ sym looks.time.limit;
     settled = subst (λ t. IfSome t (λ bytes. IsAt log (list_of bytes) last)) (sym open_told) (if_some_map old.told (λ bytes h. at_log log bytes h.0 h.1) (told_both _ _ old.told syncs.only is_in));
   }
-
--- where the first sync fails
-pub failed_moments : (old one : Meaning) → IsLawful old → Looks old one → AtEachMoment old.image old one
-failed_moments old one lawful looks = at_each old.image old one lawful (λ c is. is) looks.time
 
 test_fresh : (n : ℕ) → n ≤ 9 → true ≡ nat_le n 9
 test_fresh n le = grind (arith, nat_tests)

@@ -4,7 +4,7 @@ use Rattle.std.specs.Prelude.{IfSome, if◌then◌else◌}
 use Rattle.std.specs.List.{slice_get}
 use Rattle.std.proofs.lemmas.Bool.{cases_eq, false≢true}
 use Rattle.std.proofs.lemmas.List.{drop-drop, drop_more, take_more, length-drop, length-take-le}
-use Rattle.std.proofs.lemmas.Option.{slice_get_past, slice_get-get_or}
+use Rattle.std.proofs.lemmas.Option.{slice_get-get_or}
 use Rattle.wrp_disk.specs.Disks.{Meaning, IsLawful, Looks}
 use Rattle.wrp_log.specs.declared.fault.OpenFault.{OpenFault}
 use Rattle.wrp_log.specs.declared.fault.OpenFault.TheVariants as faults
@@ -157,10 +157,6 @@ module _ (log : Place) (old : Meaning) (lawful : IsLawful old) (on : IsOn log ol
   pub next_payload : log.replayed ≢ log.count
       → IfSome old.told (λ bytes. HasPayload log.next log.gate (get_or (list_of bytes) log.replayed []) bytes × (length (get_or (list_of bytes) log.replayed []) ≤ payload_limit log.version))
   next_payload more = if_some_map old.told (λ bytes both. next_case bytes more both.1 both.0 log.fresh refl) (told_both _ _ old.told lawful.honest on.settled)
-
-  -- there is no next one behind the last
-  pub none_left : log.replayed ≡ log.count → IfSome old.told (λ bytes. None ≡ slice_get (list_of bytes) log.replayed)
-  none_left all = if_some_map old.told (λ bytes at. sym (slice_get_past (list_of bytes) log.replayed (omega (arith, all, at.count)))) on.settled
 
   -- a read that finds each payload which is there has found the next one
   module _ (more : log.replayed ≢ log.count) (most : ℕ) (limit : most ≡ payload_limit log.version) (whole : Bool) (items : List ℕ)

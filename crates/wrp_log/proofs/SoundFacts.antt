@@ -78,6 +78,16 @@ module _ (IsFormed : List (List ℕ) → Type 0) where
     moments = λ base start. at_each (Holds IsFormed base) old new lawful start (passes_weaker old.image (Holds IsFormed base) old new start time);
   }
 
+  -- calls at each moment of which all images stand for one list, that of an image at the start
+  pub settled_keeps : (payloads : List (List ℕ)) (bytes : List ℕ) (old new : Meaning) → IsLawful old → old.image bytes → StandsFor payloads bytes → IsFormed payloads → Passes (StandsFor payloads) old new
+      → KeepsLists IsFormed old new
+  settled_keeps payloads bytes old new lawful now stands formed time = record {
+    moments = λ base start. at_each (Holds IsFormed base) old new lawful start (passes_weaker (StandsFor payloads) (Holds IsFormed base) old new (held base (start bytes now)) time);
+  }
+    where
+      held : (base : List (List ℕ)) → Holds IsFormed base bytes → (c : List ℕ) → StandsFor payloads c → Holds IsFormed base c
+      held base (same, is, _, extends) c one = (payloads, one, formed, subst (Extends base) (sym (listed same bytes is) ∙ listed payloads bytes stands) extends)
+
   -- a payload that is added to a list
   pub added_keeps : (payloads : List (List ℕ)) (payload bytes : List ℕ) (old new : Meaning) → IsLawful old → old.image bytes → StandsFor payloads bytes → IsFormed payloads → IsFormed (payloads ++ payload ∷ [])
       → Passes (IsBeforeOrAfter payloads payload) old new → KeepsLists IsFormed old new

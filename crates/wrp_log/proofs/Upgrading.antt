@@ -14,7 +14,6 @@ use Rattle.wrp_log.proofs.Written.{written_stands}
 use Rattle.wrp_log.proofs.Edits.{torn_over, put_over, behind_gate}
 use Rattle.wrp_log.specs.Logs.{Place, IsAt, IsOn}
 use Rattle.wrp_log.proofs.Adding.{synced_put, if_some_map}
-use Rattle.wrp_log.proofs.Appended.{told_both}
 
 larger_whole : (a l m s : ℕ) → l ≤ m → (nat_le 4 a && (nat_le s l && nat_lt (4 + s) a)) ≡ true → (nat_le 4 a && (nat_le s m && nat_lt (4 + s) a)) ≡ true
 larger_whole a l m s le is = grind (arith, nat_tests)
@@ -99,6 +98,3 @@ module _ (log : Place) (old new : Meaning) (lawful : IsLawful old) (begun : log.
   pub second_written : ((payloads : List (List ℕ)) → IsSome old.told → EachImage (IsWritten 1 payloads) old → EachImage (IsWritten 2 payloads) new)
       → (bytes : List ℕ) → old.told ≡ Some bytes → IsAt log (list_of bytes) old → EachImage (IsWritten 2 (list_of bytes)) new
   second_written written bytes is at = written (list_of bytes) (subst (λ t. IsSome t) (sym is) refl) (first_written (list_of bytes) at)
-
-  pub seven_bytes : IfSome old.told (λ bytes. 7 ≤ length bytes)
-  seven_bytes = if_some_map old.told (λ bytes both. omega (arith, (first_written (list_of bytes) both.1 bytes both.0).long)) (told_both _ _ old.told lawful.honest on.settled)

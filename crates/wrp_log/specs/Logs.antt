@@ -2,6 +2,7 @@
 use Rattle.std.specs.Prelude.{◌≡◌, ◌⊎◌, ℕ, ◌+◌, ◌≤◌, List, [], ◌∷◌, ◌++◌, length, take, Option, Some, None, IfSome, IsSome, Bool, true, false}
 use Rattle.std.specs.Option.{option_map}
 use Rattle.byteorder.specs.Endian.{big_bytes}
+use Rattle.wrp_out.specs.Counts.{Rose}
 use Rattle.wrp_disk.specs.Disks.{Meaning, EachImage}
 use Rattle.wrp_log.specs.Payloads.{payload_limit, closed_gate, head_size, StandsFor, IsWritten, list_of, gate_after}
 
@@ -72,6 +73,35 @@ replayed_in (Some payload) log = record log {
 -- the log is given up
 abbrev pub stopped_at : Place → Place
 stopped_at log = record log { stopped = true }
+
+-- the length of the log with one payload more
+abbrev pub length_with : List ℕ → Place → ℕ
+length_with payload log = log.gate + 6 + length payload
+
+-- ---- what calls leave, from a log and its disk before the call
+
+-- the log was begun, and has no payload
+pub record Began (old new : Place) (after : Meaning) : Type 0 where
+  pub log : new ≡ begun_at old
+  pub on : IsOn new after
+
+-- the payload was added at the end of the list
+pub record Added (payload : List ℕ) (old new : Place) (before after : Meaning) : Type 0 where
+  pub log : new ≡ added_to payload old
+  pub on : IsOn new after
+  pub list : list_told after
+      ≡ option_map (λ payloads. payloads ++ payload ∷ []) (list_told before)
+
+-- the log has version 2, and the same list
+pub record Upgraded (old new : Place) (before after : Meaning) : Type 0 where
+  pub log : new ≡ record old { version = 2 }
+  pub on : IsOn new after
+  pub list : list_told after ≡ list_told before
+
+-- the log is given up, since a call of its disk failed
+pub record GivenUp (old new : Place) (before after : Meaning) : Type 0 where
+  pub log : new ≡ stopped_at old
+  pub rose : Rose before.faults after.faults
 
 -- ---- what is written
 

@@ -3,7 +3,7 @@ ghost use Rattle.std.specs.Prelude.{◌≡◌, ◌<◌, ◌≤◌, ◌+◌, ◌^
 ghost use Rattle.std.specs.Vec.{vec_capacity};
 ghost use Rattle.byteorder.specs.Endian.{big_bytes};
 ghost use Rattle.wrp_out.specs.Counts.{Rose};
-ghost use Rattle.wrp_disk.specs.Disks.{EachImage, Passes};
+ghost use Rattle.wrp_disk.specs.Disks.{EachImage, Passes, Lasts};
 ghost use Rattle.wrp_log.specs.Payloads.{IsWritten, StandsFor, closed_gate, head_size};
 ghost use Rattle.wrp_log.specs.Logs.{IsBeforeOrAfter, IsBlock, Stands};
 
@@ -25,7 +25,7 @@ const SECOND_VERSION: u8 = b'2';
 /// Writes the mark of version 2 and a closed gate.
 pub(crate) fn write_head<D: Disk>(disk: &mut D) -> Result<(), Failed>
     requires fits { head_size ≤ (D.meaning disk.old).limit }
-    ensures lasts { Passes (λ _. Unit {0}) (D.meaning disk.old) (D.meaning disk.new) }
+    ensures lasts { Lasts (D.meaning disk.old) (D.meaning disk.new) }
     ensures any_moment { EachImage (λ c. length c ≤ head_size) (D.meaning disk.old)
         → Passes (λ c. length c ≤ head_size) (D.meaning disk.old) (D.meaning disk.new) }
     ensures begun { OnOk result (IsSome (D.meaning disk.old).told
@@ -41,7 +41,7 @@ pub(crate) fn write_head<D: Disk>(disk: &mut D) -> Result<(), Failed>
 pub(crate) fn write_version<D: Disk>(disk: &mut D) -> Result<(), Failed>
     requires fits { 8 ≤ (D.meaning disk.old).limit }
     requires no_gap { IfSome (D.meaning disk.old).told (λ bytes. 7 ≤ length bytes) }
-    ensures lasts { Passes (λ _. Unit {0}) (D.meaning disk.old) (D.meaning disk.new) }
+    ensures lasts { Lasts (D.meaning disk.old) (D.meaning disk.new) }
     ensures any_moment { (payloads : List (List ℕ))
         → EachImage (IsWritten 1 payloads) (D.meaning disk.old)
         → Passes (StandsFor payloads) (D.meaning disk.old) (D.meaning disk.new) }
@@ -59,7 +59,7 @@ pub(crate) fn add_block<D: Disk>(disk: &mut D, gate: u64, block: &[u8]) -> Resul
     requires fits { gate + 1 + length block.now ≤ (D.meaning disk.old).limit }
     requires small { gate < 2 ^ 62 }
     requires no_gap { IfSome (D.meaning disk.old).told (λ bytes. gate + 1 ≤ length bytes) }
-    ensures lasts { Passes (λ _. Unit {0}) (D.meaning disk.old) (D.meaning disk.new) }
+    ensures lasts { Lasts (D.meaning disk.old) (D.meaning disk.new) }
     ensures any_moment { (version : ℕ) (payloads : List (List ℕ)) (payload : List ℕ)
         → Stands version payloads gate (D.meaning disk.old) → IsBlock version payload block.now
         → Passes (IsBeforeOrAfter payloads payload) (D.meaning disk.old) (D.meaning disk.new) }

@@ -4,10 +4,10 @@ ghost use Rattle.std.specs.List.{slice_get};
 ghost use Rattle.std.specs.Option.{option_map};
 ghost use Rattle.std.specs.Vec.{vec_capacity};
 ghost use Rattle.wrp_out.specs.Counts.{Rose};
-ghost use Rattle.wrp_disk.specs.Disks.{Passes, AtEachMoment, Looks};
+ghost use Rattle.wrp_disk.specs.Disks.{AtEachMoment, Looks, Lasts};
 ghost use Rattle.wrp_log.specs.Payloads.{IsVersion, payload_limit, head_size, StandsFor, list_of};
 ghost use Rattle.wrp_log.specs.Steps.{OpenIs};
-ghost use Rattle.wrp_log.specs.Logs.{IsBeforeOrAfter, IsOn, list_told, begun_at, added_to, stopped_at};
+ghost use Rattle.wrp_log.specs.Logs.{IsBeforeOrAfter, IsOn, Began, Added, Upgraded, GivenUp, length_with};
 ghost use Rattle.std.specs.Borrow.{sem};
 ghost use Rattle.std.specs.Io.BufRead.{Rests};
 ghost use Rattle.wrp_log.specs.Replays.{IsReplayed};
@@ -152,9 +152,8 @@ impl Log {
         requires fresh { self.old.fresh ≡ true }
         requires going { self.old.stopped ≡ false }
 
-        ensures ok { OnOk result (self.new ≡ begun_at self.old) }
-        ensures on { OnOk result (IsOn self.new (D.meaning disk.new)) }
-        ensures lasts { Passes (λ _. Unit {0}) (D.meaning disk.old) (D.meaning disk.new) }
+        ensures begun { OnOk result (Began self.old self.new (D.meaning disk.new)) }
+        ensures lasts { Lasts (D.meaning disk.old) (D.meaning disk.new) }
 
         // A crash at any moment of the call leaves no payloads.
         ensures any_moment { IsSome (D.meaning disk.old).told
@@ -162,12 +161,11 @@ impl Log {
 
         // Where there is no room the disk isn't touched.
         ensures full { self.old.limit < head_size
-            → result ≡ Err (AppendFault.Full head_size self.old.limit) }
-        ensures untouched { self.old.limit < head_size
-            → (disk.new ≡ disk.old) × (self.new ≡ self.old) }
+            → (result ≡ Err (AppendFault.Full head_size self.old.limit))
+            × (disk.new ≡ disk.old) × (self.new ≡ self.old) }
         ensures failed { head_size ≤ self.old.limit → OnErr result (
-            (result ≡ Err AppendFault.Disk) × (self.new ≡ stopped_at self.old)
-            × Rose (D.meaning disk.old).faults (D.meaning disk.new).faults) }
+            (result ≡ Err AppendFault.Disk)
+            × GivenUp self.old self.new (D.meaning disk.old) (D.meaning disk.new)) }
     {
         let limit = disk.limit();
         if limit < HEAD_SIZE {
@@ -201,12 +199,9 @@ impl Log {
         requires going { self.old.stopped ≡ false }
         requires fits { length payload.now ≤ payload_limit self.old.version }
 
-        ensures ok { OnOk result (self.new ≡ added_to payload.now self.old) }
-        ensures on { OnOk result (IsOn self.new (D.meaning disk.new)) }
-        ensures added { OnOk result (list_told (D.meaning disk.new)
-            ≡ option_map (λ payloads. payloads ++ payload.now ∷ [])
-            (list_told (D.meaning disk.old))) }
-        ensures lasts { Passes (λ _. Unit {0}) (D.meaning disk.old) (D.meaning disk.new) }
+        ensures added { OnOk result
+            (Added payload.now self.old self.new (D.meaning disk.old) (D.meaning disk.new)) }
+        ensures lasts { Lasts (D.meaning disk.old) (D.meaning disk.new) }
 
         // A crash at any moment of the call leaves the payloads from before it, or those and this
         // one.
@@ -215,13 +210,12 @@ impl Log {
             (D.meaning disk.old) (D.meaning disk.new)) }
 
         // Where there is no room the disk isn't touched.
-        ensures full { self.old.limit < self.old.gate + 6 + length payload.now → result
-            ≡ Err (AppendFault.Full (self.old.gate + 6 + length payload.now) self.old.limit) }
-        ensures untouched { self.old.limit < self.old.gate + 6 + length payload.now
-            → (disk.new ≡ disk.old) × (self.new ≡ self.old) }
-        ensures failed { self.old.gate + 6 + length payload.now ≤ self.old.limit → OnErr result (
-            (result ≡ Err AppendFault.Disk) × (self.new ≡ stopped_at self.old)
-            × Rose (D.meaning disk.old).faults (D.meaning disk.new).faults) }
+        ensures full { self.old.limit < length_with payload.now self.old
+            → (result ≡ Err (AppendFault.Full (length_with payload.now self.old) self.old.limit))
+            × (disk.new ≡ disk.old) × (self.new ≡ self.old) }
+        ensures failed { length_with payload.now self.old ≤ self.old.limit → OnErr result (
+            (result ≡ Err AppendFault.Disk)
+            × GivenUp self.old self.new (D.meaning disk.old) (D.meaning disk.new)) }
     {
         let limit = disk.limit();
         let length = self.gate + 6 + payload.len() as u64;
@@ -282,17 +276,15 @@ impl Log {
         requires begun { self.old.fresh ≡ false }
         requires going { self.old.stopped ≡ false }
 
-        ensures ok { OnOk result (self.new ≡ record self.old { version = 2 }) }
-        ensures on { OnOk result (IsOn self.new (D.meaning disk.new)) }
-        ensures list { OnOk result
-            (list_told (D.meaning disk.new) ≡ list_told (D.meaning disk.old)) }
-        ensures lasts { Passes (λ _. Unit {0}) (D.meaning disk.old) (D.meaning disk.new) }
+        ensures upgraded { OnOk result
+            (Upgraded self.old self.new (D.meaning disk.old) (D.meaning disk.new)) }
+        ensures lasts { Lasts (D.meaning disk.old) (D.meaning disk.new) }
 
         // A crash at any moment of the call leaves the payloads from before it.
         ensures any_moment { IfSome (D.meaning disk.old).told (λ bytes.
             AtEachMoment (StandsFor (list_of bytes)) (D.meaning disk.old) (D.meaning disk.new)) }
-        ensures failed { OnErr result ((self.new ≡ stopped_at self.old)
-            × Rose (D.meaning disk.old).faults (D.meaning disk.new).faults) }
+        ensures failed { OnErr result
+            (GivenUp self.old self.new (D.meaning disk.old) (D.meaning disk.new)) }
     {
         prove!(self.gate < self.limit);
         match write_version(disk) {
