@@ -1,0 +1,9 @@
+pub mod Equations
+pub mod Systems
+pub mod Solutions
+pub mod Soundness
+pub mod Sparse
+pub mod Rows
+pub mod Changes
+pub mod Kept
+pub mod Starts
