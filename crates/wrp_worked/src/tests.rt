@@ -10,6 +10,7 @@ use wrp_euler::{CircuitFault, circuit};
 use wrp_graph::Graph;
 use wrp_parts::required_parts;
 use wrp_paths::shortest;
+use wrp_reach::{Reach, labels};
 use wrp_street::{List, Step, TableFault, Town, read_town};
 
 // A street, driven in its first direction.
@@ -139,6 +140,16 @@ fn circuit_length(
     }
 }
 
+// The junctions of the component that holds every demand, where a town has a tour.
+fn joined(alloc: Global, table: &[u8]) -> Result<Option<List<u32>>, TableFault> {
+    let town = read_town(alloc, table)?;
+    let graph = Graph::new(alloc, &town)?;
+    match labels(alloc, &graph)? {
+        Reach::Joined { part } => Ok(Some(part)),
+        Reach::Split { .. } => Ok(None),
+    }
+}
+
 // A step along a street.
 fn forward(street: u32) -> Step {
     Step {
@@ -192,5 +203,15 @@ fn counts_have_a_circuit_or_a_fault(rt: HostRuntime) -> Result<(), Fail> {
         Some(Err(apart))
     );
     assert_eq!(rt; circuit_length(alloc, CHAIN, &[0; 6])?, Some(Ok(0)));
+    Ok(())
+}
+
+#[test]
+fn tours_stay_in_a_component(rt: HostRuntime) -> Result<(), Fail> {
+    let alloc = rt.alloc();
+    let chain = List::from_vec(Vec::from_slice(alloc, &[0, 1, 2, 3])?);
+    assert_eq!(rt; joined(alloc, CHAIN)?, Some(chain));
+    assert_eq!(rt; joined(alloc, ONE_WAY)?, None);
+    assert_eq!(rt; joined(alloc, CLOSED)?, None);
     Ok(())
 }

@@ -1,0 +1,13 @@
+pub mod Steps
+pub mod Ways
+pub mod Counts
+pub mod Entering
+pub mod Joining
+pub mod Dropping
+pub mod Closing
+pub mod Turns
+pub mod Roots
+pub mod Demands
+pub mod Joint
+pub mod Parted
+pub mod Whole

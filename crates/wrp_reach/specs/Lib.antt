@@ -1,0 +1,5 @@
+pub mod Reaching
+pub mod Answers
+pub mod Components
+pub mod Search
+pub mod Outside
