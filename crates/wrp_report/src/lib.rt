@@ -1,0 +1,11 @@
+//! What the program prints of towns and of what was found for them.
+#![tactic(auto)]
+
+mod answer;
+mod info;
+mod lines;
+mod reports;
+
+pub use answer::Answer;
+pub use info::info_text;
+pub use reports::{report, summary, turns_report, visit_report};
