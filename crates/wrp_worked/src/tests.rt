@@ -11,7 +11,8 @@ use wrp_graph::Graph;
 use wrp_parts::required_parts;
 use wrp_paths::shortest;
 use wrp_reach::{Reach, labels};
-use wrp_street::{List, Step, TableFault, Town, read_town};
+use wrp_street::{List, Step, TableFault, Town, read_town, walk_cost};
+use wrp_tour::{first_tour, improve};
 
 // A street, driven in its first direction.
 const ONE_WAY: &[u8] = b"street,from,to,forward,backward,need\ne,A,B,2,-,yes\n";
@@ -150,6 +151,29 @@ fn joined(alloc: Global, table: &[u8]) -> Result<Option<List<u32>>, TableFault> 
     }
 }
 
+// What a first tour costs, and a better one; nothing where a town has no tour.
+fn tour_costs(alloc: Global, table: &[u8]) -> Result<Option<(u64, u64)>, TableFault> {
+    let town = read_town(alloc, table)?;
+    let graph = Graph::new(alloc, &town)?;
+    match labels(alloc, &graph)? {
+        Reach::Joined { .. } => {
+            let parts = required_parts(alloc, &graph)?;
+            let first = first_tour(alloc, &graph, &parts)?;
+            if first.len() > 1000 {
+                return Ok(None);
+            }
+            let better = improve(alloc, &graph, first.as_slice())?;
+            if better.len() > 1000 {
+                return Ok(None);
+            }
+            let old = walk_cost(&town, first.as_slice()).unwrap_or(0);
+            let new = walk_cost(&town, better.as_slice()).unwrap_or(0);
+            Ok(Some((old, new)))
+        }
+        Reach::Split { .. } => Ok(None),
+    }
+}
+
 // A step along a street.
 fn forward(street: u32) -> Step {
     Step {
@@ -213,5 +237,14 @@ fn tours_stay_in_a_component(rt: HostRuntime) -> Result<(), Fail> {
     assert_eq!(rt; joined(alloc, CHAIN)?, Some(chain));
     assert_eq!(rt; joined(alloc, ONE_WAY)?, None);
     assert_eq!(rt; joined(alloc, CLOSED)?, None);
+    Ok(())
+}
+
+#[test]
+fn tours_are_short(rt: HostRuntime) -> Result<(), Fail> {
+    let alloc = rt.alloc();
+    assert_eq!(rt; tour_costs(alloc, CHAIN)?, Some((24, 24)));
+    assert_eq!(rt; tour_costs(alloc, TRIANGLE)?, Some((9, 9)));
+    assert_eq!(rt; tour_costs(alloc, ONE_WAY)?, None);
     Ok(())
 }

@@ -1,0 +1,3 @@
+pub mod Pieces
+pub mod Uses
+pub mod Rounds

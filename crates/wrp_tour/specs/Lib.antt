@@ -1,0 +1,3 @@
+pub mod Tours
+pub mod Thinning
+pub mod Plain

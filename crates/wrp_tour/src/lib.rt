@@ -1,0 +1,15 @@
+//! Tours: a first one, and a better one.
+//!
+//! How good a tour is rests on no proof: what a heuristic finds is taken where it is tested to be a
+//! tour. Else a plain tour stands in its place.
+#![tactic(auto)]
+
+mod lean;
+mod order;
+mod plain;
+mod sides;
+mod thinning;
+mod tours;
+mod ways;
+
+pub use tours::{first_tour, improve};
