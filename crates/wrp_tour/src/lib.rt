@@ -5,9 +5,11 @@
 #![tactic(auto)]
 
 mod lean;
+mod moves;
 mod order;
 mod plain;
 mod sides;
+mod table;
 mod thinning;
 mod tours;
 mod ways;

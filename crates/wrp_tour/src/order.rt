@@ -1,24 +1,26 @@
-//! A tour by the order of its services: between each and the next the walk is a shortest one, and
-//! each demand of either direction is served in the direction that is best in this order.
+//! A tour by the order of its services: between each and the next the walk is a shortest one, each
+//! demand of either direction is served in the direction that is best in this order, and single
+//! services move to where they cost less.
 //!
 //! Nothing is proved of how good it is, nor that it is a tour: its callers test that.
-use crate::ways::{NONE, Ways, cost, head, tail};
+use crate::moves::moved;
+use crate::table::Distances;
+use crate::ways::{NONE, Ways, head, tail};
 use std::alloc::{AllocError, Global};
 use wrp_graph::Graph;
 use wrp_town::{List, Need, Step, Town, walk_cost};
 
-/// The most services for which directions are chosen anew.
-const MOST_CHOICES: usize = 1_000;
+/// How often a tour is made anew at most, and how often its order is gone through for that.
+const ROUNDS: usize = 3;
 
-/// How often a tour is made anew at most.
-const ROUNDS: usize = 4;
+const TURNS: usize = 5;
 
 /// An arc that serves a demand, and the one that may serve it instead: the same where there is no
 /// choice.
 #[derive(Clone, Copy)]
-struct Service {
-    arc: u32,
-    other: u32,
+pub(crate) struct Service {
+    pub(crate) arc: u32,
+    pub(crate) other: u32,
 }
 
 /// The steps, or cheaper ones in the order of their services.
@@ -27,9 +29,10 @@ pub(crate) fn reordered(
     graph: &Graph,
     steps: &[Step],
 ) -> Result<List<Step>, AllocError> {
+    let distances = Distances::of(alloc, graph)?;
     let mut best = List::from_vec(steps.to_vec(alloc)?);
     for _ in 0..ROUNDS {
-        let next = once_reordered(alloc, graph, best.as_slice())?;
+        let next = once_reordered(alloc, graph, &distances, best.as_slice())?;
         if price(graph.town(), next.as_slice()) >= price(graph.town(), best.as_slice()) {
             return Ok(best);
         }
@@ -46,11 +49,39 @@ fn price(town: &Town, steps: &[Step]) -> u64 {
     walk_cost(town, steps).unwrap_or(NONE)
 }
 
-/// A tour in the order of the services of another.
-fn once_reordered(alloc: Global, graph: &Graph, steps: &[Step]) -> Result<List<Step>, AllocError> {
-    let services = services_of(alloc, graph.town(), steps)?;
-    let arcs = chosen_arcs(alloc, graph, &services)?;
-    rebuilt(alloc, graph, &arcs)
+/// A tour in the order of the services of another, of which some move.
+fn once_reordered(
+    alloc: Global,
+    graph: &Graph,
+    distances: &Distances,
+    steps: &[Step],
+) -> Result<List<Step>, AllocError> {
+    let town = graph.town();
+    let services = services_of(alloc, town, steps)?;
+    let mut order = chosen_services(alloc, town, distances, &services)?;
+    for _ in 0..TURNS {
+        let next = moved(alloc, town, distances, &order)?;
+        let turned = chosen_services(alloc, town, distances, &next)?;
+        if order_cost(town, distances, &turned) >= order_cost(town, distances, &order) {
+            return rebuilt(alloc, graph, &order);
+        }
+        order = turned;
+    }
+    rebuilt(alloc, graph, &order)
+}
+
+/// What a tour in an order costs.
+fn order_cost(town: &Town, distances: &Distances, order: &[Service]) -> u64 {
+    let mut total = 0u64;
+    for at in 0..order.len() {
+        let next = if at + 1 < order.len() {
+            order[at + 1]
+        } else {
+            order[0]
+        };
+        total = total.saturating_add(distances.on(town, order[at].arc, next.arc));
+    }
+    total
 }
 
 /// The services of a walk, each where a demand is first served.
@@ -142,7 +173,12 @@ struct Costs {
 }
 
 /// The links between services, of which the last leads back to the first.
-fn links_of(alloc: Global, graph: &Graph, services: &[Service]) -> Result<Vec<Link>, AllocError> {
+fn links_of(
+    alloc: Global,
+    town: &Town,
+    distances: &Distances,
+    services: &[Service],
+) -> Result<Vec<Link>, AllocError> {
     let mut links = Vec::new(alloc);
     for at in 0..services.len() {
         let next = if at + 1 < services.len() {
@@ -151,38 +187,29 @@ fn links_of(alloc: Global, graph: &Graph, services: &[Service]) -> Result<Vec<Li
             services[0]
         };
         links.push(Link {
-            from_arc: costs_from(alloc, graph, services[at].arc, next)?,
-            from_other: costs_from(alloc, graph, services[at].other, next)?,
+            from_arc: costs_from(town, distances, services[at].arc, next),
+            from_other: costs_from(town, distances, services[at].other, next),
         })?;
     }
     Ok(links)
 }
 
 /// What it costs to go on from an arc.
-fn costs_from(alloc: Global, graph: &Graph, arc: u32, next: Service) -> Result<Costs, AllocError> {
-    let town = graph.town();
-    match Ways::from(alloc, graph, head(town, arc))? {
-        Some(ways) => Ok(Costs {
-            arc: ways
-                .cost(tail(town, next.arc))
-                .saturating_add(cost(town, next.arc)),
-            other: ways
-                .cost(tail(town, next.other))
-                .saturating_add(cost(town, next.other)),
-        }),
-        None => Ok(Costs {
-            arc: NONE,
-            other: NONE,
-        }),
+fn costs_from(town: &Town, distances: &Distances, arc: u32, next: Service) -> Costs {
+    Costs {
+        arc: distances.on(town, arc, next.arc),
+        other: distances.on(town, arc, next.other),
     }
 }
 
-/// The arcs of the services, in the directions that are best in this order.
-fn chosen_arcs(alloc: Global, graph: &Graph, services: &[Service]) -> Result<Vec<u32>, AllocError> {
-    if services.len() > MOST_CHOICES {
-        return services.iter().map(|service| service.arc).collect(alloc);
-    }
-    let links = links_of(alloc, graph, services)?;
+/// The services, in the directions that are best in this order.
+fn chosen_services(
+    alloc: Global,
+    town: &Town,
+    distances: &Distances,
+    services: &[Service],
+) -> Result<Vec<Service>, AllocError> {
+    let links = links_of(alloc, town, distances, services)?;
     let straight = chosen(alloc, &links, false)?;
     let turned = chosen(alloc, &links, true)?;
     let best = if turned.cost < straight.cost {
@@ -190,20 +217,34 @@ fn chosen_arcs(alloc: Global, graph: &Graph, services: &[Service]) -> Result<Vec
     } else {
         &straight
     };
-    arcs_of(alloc, services, &best.others)
+    turned_services(alloc, services, &best.others)
 }
 
-/// The arcs of services, the other one where a choice says so.
-fn arcs_of(alloc: Global, services: &[Service], others: &[bool]) -> Result<Vec<u32>, AllocError> {
-    let mut arcs = Vec::new(alloc);
+/// Services, each turned where a choice says so.
+fn turned_services(
+    alloc: Global,
+    services: &[Service],
+    others: &[bool],
+) -> Result<Vec<Service>, AllocError> {
+    let mut turned = Vec::new(alloc);
     for (service, is_other) in services.iter().zip(others) {
-        arcs.push(if *is_other {
-            service.other
+        turned.push(if *is_other {
+            service.turned()
         } else {
-            service.arc
+            *service
         })?;
     }
-    Ok(arcs)
+    Ok(turned)
+}
+
+impl Service {
+    /// The same demand, served by the other arc.
+    pub(crate) fn turned(self) -> Service {
+        Service {
+            arc: self.other,
+            other: self.arc,
+        }
+    }
 }
 
 /// Directions of all services, and what the tour with them costs.
@@ -271,24 +312,19 @@ fn costs_after(costs: Costs, link: Link) -> Costs {
     }
 }
 
-/// The arcs in their order, with shortest walks between them.
-fn rebuilt(alloc: Global, graph: &Graph, arcs: &[u32]) -> Result<List<Step>, AllocError> {
+/// The services in their order, with shortest walks between them.
+fn rebuilt(alloc: Global, graph: &Graph, services: &[Service]) -> Result<List<Step>, AllocError> {
     let town = graph.town();
     let mut steps = Vec::new(alloc);
-    for at in 0..arcs.len() {
-        let next = if at + 1 < arcs.len() {
-            arcs[at + 1]
+    for at in 0..services.len() {
+        let arc = services[at].arc;
+        let next = if at + 1 < services.len() {
+            services[at + 1].arc
         } else {
-            arcs[0]
+            services[0].arc
         };
-        steps.push(Step::along(arcs[at]))?;
-        add_walk(
-            alloc,
-            graph,
-            head(town, arcs[at]),
-            tail(town, next),
-            &mut steps,
-        )?;
+        steps.push(Step::along(arc))?;
+        add_walk(alloc, graph, head(town, arc), tail(town, next), &mut steps)?;
     }
     Ok(List::from_vec(steps))
 }
