@@ -2,10 +2,12 @@
 #![tactic(auto)]
 
 mod answer;
+mod grid;
 mod info;
 mod lines;
 mod reports;
 
 pub use answer::Answer;
+pub use grid::town_of;
 pub use info::info_text;
 pub use reports::{report, summary, turns_report, visit_report};

@@ -11,7 +11,8 @@ mod table;
 mod writer;
 
 pub use laws::table_laws;
-pub use reader::read_town;
+pub use reader::{TableReader, read_town};
+pub use row::Row;
 pub use table::TableFault;
 pub use writer::canonical;
 pub use wrp_town::{

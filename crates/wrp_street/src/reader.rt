@@ -1,9 +1,8 @@
 // A whole table.
 
-ghost use Rattle.std.specs.Prelude.{◌≡◌, [], length, IfOk, OnOk, OnErr, IsErrOf};
+ghost use Rattle.std.specs.Prelude.{◌≡◌, [], length, IfOk, OnOk};
 ghost use Rattle.wrp_records.specs.Streams.{fields_of};
 ghost use Rattle.wrp_town.specs.Streets.{IsTown, demands_from};
-ghost use Rattle.wrp_street.specs.declared.table.TableFault.TheVariants.{Memory};
 ghost use Rattle.wrp_street.specs.Faults.{Gives, GivesNew, GivesAs};
 ghost use Rattle.wrp_street.specs.Tables.{no_rows, with_row, with_record, with_records, within_limits, table_in, table_of, Reads};
 ghost use Rattle.wrp_street.specs.Growing.{rows_in, IsGrowing};
@@ -12,11 +11,12 @@ use crate::header::is_header;
 use crate::junctions::Junctions;
 use crate::row::{Row, read_row};
 use crate::table::TableFault;
-use std::alloc::Global;
+use std::alloc::{AllocError, Global};
 use wrp_records::{ByteRecord, Records};
 use wrp_town::{DEMAND_LIMIT, JUNCTION_LIMIT, List, STREET_LIMIT, Street, Town};
 
-/// The rows of a table so far.
+/// The rows of a table so far, which become a town. Contracts see the junctions that they name and
+/// the streets that they are.
 #[derive(Drop)]
 pub struct TableReader {
     junctions: Junctions,
@@ -25,8 +25,8 @@ pub struct TableReader {
 }
 
 impl TableReader {
-    // No rows.
-    fn new(alloc: Global) -> TableReader
+    /// No rows.
+    pub fn new(alloc: Global) -> TableReader
         ensures rows { rows_in result ≡ no_rows }
         ensures growing { IsGrowing result }
     {
@@ -37,13 +37,16 @@ impl TableReader {
         }
     }
 
-    // Adds a row at the end, whatever the limits.
-    fn add(&mut self, row: Row) -> Result<(), TableFault>
+    /// Adds a row at the end, whatever the limits.
+    ///
+    /// # Errors
+    ///
+    /// Want of memory alone.
+    pub fn add(&mut self, row: Row) -> Result<(), AllocError>
         requires { IsGrowing self.old }
         ensures rows { OnOk result (rows_in self.new ≡ with_row (rows_in self.old) row) }
         ensures counted { OnOk result
             (self.new.demands ≡ length (demands_from 0 self.new.streets)) }
-        ensures memory { OnErr result (IsErrOf result Memory) }
     {
         let from = self.junctions.add(row.from)?;
         let to = self.junctions.add(row.to)?;
@@ -90,11 +93,14 @@ impl TableReader {
         self.keep_limits(number)
     }
 
-    // The town of the rows.
-    fn into_town(self, alloc: Global) -> Result<Town, TableFault>
+    /// The town of the rows.
+    ///
+    /// # Errors
+    ///
+    /// Want of memory alone.
+    pub fn into_town(self, alloc: Global) -> Result<Town, AllocError>
         requires { IsTown self.junctions self.streets }
-        ensures town { IfOk result (λ town. table_in town ≡ rows_in self) }
-        ensures memory { OnErr result (IsErrOf result Memory) }
+        ensures { IfOk result (λ town. table_in town ≡ rows_in self) }
     {
         Ok(Town {
             junctions: self.junctions.into_list(alloc)?,
@@ -135,5 +141,5 @@ pub fn read_town(alloc: Global, bytes: &[u8]) -> Result<Town, TableFault>
         return Err(TableFault::Header);
     }
     let table = read_rows(alloc, &mut records)?;
-    table.into_town(alloc)
+    Ok(table.into_town(alloc)?)
 }
