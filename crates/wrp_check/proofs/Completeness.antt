@@ -1,43 +1,53 @@
--- The checker accepts each proof that is judged.
-use Rattle.std.proofs.Common.{codes, inl, inr, ◌≡◌, ℕ, ◌+◌, ◌-◌, ◌<◌, ◌≤◌, ◌^◌, min, Bool, true, false, cond, ◌&&◌, not, ◌==◌, nat_lt, nat_le, List, [], ◌∷◌, ◌++◌, map, length, fold, Option, None, Some, is_none, Ok, refl, ap, ◌∙◌, subst, arith, length-append, append_assoc}
+-- The checker accepts each proof.
+use Rattle.std.proofs.Common.{codes, inl, inr, ◌≡◌, ℕ, ◌+◌, ◌<◌, ◌≤◌, ◌^◌, min, Bool, true, false, cond, ◌&&◌, not, ◌==◌, nat_lt, ℤ, pos, ◌≤ℤ◌, int_lt, int_le, List, [], ◌∷◌, ◌++◌, map, drop, length, fold, Option, None, Some, IfSome, is_none, Ok, refl, sym, ap, ◌∙◌, subst, arith, length-append, append_assoc}
 use Rattle.std.specs.Char.{is_ascii_digit}
 use Rattle.std.specs.Fmt.{decimal}
-use Rattle.std.specs.Option.{option_map_or}
-use Rattle.std.specs.List.{AllByRecursion, list_all}
-use Rattle.std.proofs.lemmas.Bool.{and_parts, and_from, or_from, le-ltb, lt-ltb, ltb-true, leb-true, eqb-true, false≢true}
+use Rattle.std.specs.Int.{int_min}
+use Rattle.std.specs.Option.{option_map_or, option_or, option_map}
+use Rattle.std.specs.List.{AllByRecursion, list_all, list_any, filter, before_first, after_first}
+use Rattle.std.proofs.lemmas.Bool.{and_parts, and_from, or_from, le-ltb, lt-ltb, ltb-true, eqb-true, false≢true}
 use Rattle.std.proofs.lemmas.Bool.Decides.{nat_tests}
 use Rattle.std.proofs.lemmas.Fmt.{length-decimal-le}
 use Rattle.std.proofs.lemmas.List.Folds.{list_all-append}
-use Rattle.wrp_town.specs.declared.street.Step.{Step}
+use Rattle.wrp_sums.proofs.Integers.{linear, tests}
 use Rattle.wrp_town.specs.declared.town.Town.{Town}
+use Rattle.wrp_rules.specs.declared.layout.Kind.{Kind}
+use Rattle.wrp_rules.specs.declared.layout.Kind.TheVariants as kinds
+use Rattle.wrp_rules.specs.declared.layout.Range.{Range}
+use Rattle.wrp_rules.specs.declared.layout.Tail.{Tail}
+use Rattle.wrp_rules.specs.declared.layout.Tail.TheVariants as tails
 use Rattle.wrp_rules.specs.declared.record.Record.{Record}
-use Rattle.wrp_rules.specs.declared.record.Record.TheVariants.{Tour, Conn, Odd, Round, Kc, Bound, Empty, Apart, Point, Blind, Split, Labels}
+use Rattle.wrp_rules.specs.declared.record.Record.TheVariants.{Tour, Odd}
 use Rattle.wrp_rules.specs.declared.record.End.{End}
 use Rattle.wrp_rules.specs.declared.record.End.TheVariants.{Optimal, Infeasible, Unfinished}
 use Rattle.wrp_rules.specs.declared.rule.Rule.{Rule}
-use Rattle.wrp_rules.specs.Nodes.{Standing, start, after, standing}
-use Rattle.wrp_rules.specs.Lines.{line_of, end_line, step_text, pair_text}
+use Rattle.wrp_rules.specs.declared.rule.Rule.TheVariants as rules
+use Rattle.wrp_rules.specs.Layouts.{layout_of}
+use Rattle.wrp_rules.specs.Nodes.{Node, Standing, start, after, standing, is_below, is_open, open_nodes, least_bound, lower}
+use Rattle.wrp_rules.specs.Lines.{line_with, line_of, end_line}
 use Rattle.wrp_rules.specs.Lists.{goes_on, is_done, is_upper, agrees}
-use Rattle.wrp_rules.specs.Contents.{has_number_rules, has_end_numbers}
-use Rattle.wrp_rules.specs.Ranges.{is_index, is_count, is_from_one, is_ascending, are_pairs, are_multipliers}
-use Rattle.wrp_rules.specs.Rules.{broken_rule}
-use Rattle.wrp_rules.specs.Judged.{is_judged, go_on_judged, are_judged}
-use Rattle.wrp_proof.specs.Views.{is_later}
-use Rattle.wrp_rules.specs.Proofs.{Version, version_1, version_2, ended, record_lines, IsProofBy}
-use Rattle.wrp_grammar.proofs.Written.{text-number}
-use Rattle.wrp_grammar.proofs.WrittenPairs.{number_digits}
+use Rattle.wrp_rules.specs.Contents.{Content, content_of, content_of_end, keeps_number_rules, has_number_rules, has_end_numbers}
+use Rattle.wrp_rules.specs.Ranges.{is_index, is_count, is_from_one, is_in_range, is_set, are_pairs, are_multipliers}
+use Rattle.wrp_rules.specs.Rules.{first_broken, rules_of, is_alone, broken_rule, int_eq}
+use Rattle.wrp_rules.specs.Proofs.{Version, version_1, version_2, most_bytes, ended, record_lines, IsProofBy, IsProof}
+use Rattle.wrp_grammar.specs.Parts.{number_of, is_number, is_index_part, is_sign, sign_of, street_part, is_step, first_half, second_half, is_pair, pair_of, numbers_of}
+use Rattle.wrp_grammar.specs.Shapes.{is_slash}
+use Rattle.wrp_grammar.specs.Numbers.{is_range_part}
+use Rattle.wrp_grammar.specs.Spelling.{are_leading}
+use Rattle.wrp_grammar.proofs.Written.{ends}
+use Rattle.wrp_grammar.proofs.WrittenPairs.{number_digits, halves-whole}
 use Rattle.wrp_grammar.proofs.Spacing.{spread}
-use Rattle.wrp_grammar.proofs.PairLists.{index-of_most}
+use Rattle.wrp_grammar.proofs.LabelLists.{label-whole}
+use Rattle.wrp_grammar.proofs.TailTexts.{is_right_tail}
+use Rattle.wrp_grammar.proofs.LayoutTexts.{line_parts, is_read_line}
+use Rattle.wrp_grammar.proofs.KindLines.{kind-parts}
 use Rattle.wrp_proof.proofs.LineLaws.{line-spelled, end_line-spelled}
-use Rattle.wrp_proof.proofs.SpelledLaws.{is_viewed, Tried, passes-tried}
-use Rattle.wrp_rules.specs.Proofs.{most_bytes}
 use Rattle.wrp_check.specs.Streams.{is_one_line}
 use Rattle.wrp_proof.specs.JudgedLines.{judged_line, judged_end, is_end}
 use Rattle.wrp_check.specs.Verdicts.{Accepted, is_long, limit_of, verdict_on, verdict}
-use Rattle.wrp_check.specs.Accepted.{IsJudgedProof}
 use Rattle.wrp_check.proofs.VerdictSteps.{behind_records, verdict-goes, verdict-accepted, verdict-started}
 
--- ---- lines of records have no line feed
+-- ---- parts that are written right have no line feed
 
 digits-one : (xs : List ℕ) → list_all is_ascii_digit xs ≡ true → is_one_line xs ≡ true
 digits-one [] h = refl
@@ -48,12 +58,80 @@ digits-one (x ∷ xs) h =
     apart : (c : ℕ) → is_ascii_digit c ≡ true → not (c == 10) ≡ true
     apart c h = grind (arith, nat_tests)
 
-number-one : (n : ℕ) → n < 2 ^ 64 → is_one_line (decimal n) ≡ true
-number-one n small = digits-one (decimal n) (number_digits (decimal n) (text-number n (omega (arith, small))).0).1
+number-one : (part : List ℕ) → is_number part ≡ true → is_one_line part ≡ true
+number-one part h = digits-one part (number_digits part h).1
 
 -- two texts in a row
 both-one : (xs ys : List ℕ) → is_one_line xs ≡ true → is_one_line ys ≡ true → is_one_line (xs ++ ys) ≡ true
 both-one xs ys one two = list_all-append (λ byte. not (byte == 10)) xs ys ∙ and_from (is_one_line xs) (is_one_line ys) one two
+
+index-one : (part : List ℕ) → is_index_part part ≡ true → is_one_line part ≡ true
+index-one part h = number-one part (and_parts (is_number part) (is_index (number_of part)) h).0
+
+step-one : (part : List ℕ) → is_step part ≡ true → is_one_line part ≡ true
+step-one part h =
+    let both = and_parts (is_sign (sign_of part)) (is_number (street_part part) && is_index (number_of (street_part part))) h in
+    let street = (and_parts (is_number (street_part part)) (is_index (number_of (street_part part))) both.1).0 in
+    ap is_one_line (sym (ends part (some part both.0)))
+    ∙ both-one (street_part part) (sign_of part ∷ []) (number-one (street_part part) street) (sign (sign_of part) both.0)
+  where
+    some : (xs : List ℕ) → is_sign (sign_of xs) ≡ true → 0 < length xs
+    some [] h = absurd (false≢true h)
+    some (x ∷ xs) h = omega arith
+
+    sign : (c : ℕ) → is_sign c ≡ true → is_one_line (c ∷ []) ≡ true
+    sign c h = grind (arith, nat_tests)
+
+pair-one : (most : ℕ) (part : List ℕ) → is_pair most part ≡ true → is_one_line part ≡ true
+pair-one most part h =
+    let first = first_half part in
+    let second = second_half part in
+    let both = and_parts (is_number first && is_index (number_of first)) (is_number second && is_from_one most (number_of second)) h in
+    let one = (and_parts (is_number first) (is_index (number_of first)) both.0).0 in
+    let two = (and_parts (is_number second) (is_from_one most (number_of second)) both.1).0 in
+    ap is_one_line (sym (halves-whole part (number_digits second two).0))
+    ∙ both-one first (58 ∷ second) (number-one first one) (number-one second two)
+
+-- parts that are each written right
+all-one : (is_right : List ℕ → Bool) (parts : List (List ℕ)) → ((part : List ℕ) → is_right part ≡ true → is_one_line part ≡ true) → list_all is_right parts ≡ true → list_all is_one_line parts ≡ true
+all-one is_right [] one h = refl
+all-one is_right (part ∷ parts) one h =
+    let both = and_parts (is_right part) (list_all is_right parts) h in
+    and_from (is_one_line part) (list_all is_one_line parts) (one part both.0) (all-one is_right parts one both.1)
+
+labels-one : (parts : List (List ℕ)) → is_right_tail tails.Labels parts ≡ true → list_all is_one_line parts ≡ true
+labels-one parts h =
+    let first = before_first is_slash parts in
+    let second = after_first is_slash parts in
+    let some = and_parts (list_any is_slash parts) (list_all is_index_part first && list_all is_index_part second) h in
+    let both = and_parts (list_all is_index_part first) (list_all is_index_part second) some.1 in
+    ap (list_all is_one_line) (label-whole parts some.0)
+    ∙ list_all-append is_one_line first (codes "/" ∷ second)
+    ∙ and_from (list_all is_one_line first) (list_all is_one_line second) (all-one is_index_part first index-one both.0) (all-one is_index_part second index-one both.1)
+
+tail-one : (tail : Tail) (parts : List (List ℕ)) → is_right_tail tail parts ≡ true → list_all is_one_line parts ≡ true
+tail-one tails.Nothing [] h = refl
+tail-one tails.Nothing (part ∷ parts) h = absurd (false≢true h)
+tail-one tails.Steps parts h = all-one is_step parts step-one h
+tail-one tails.Set parts h = all-one is_index_part parts index-one (and_parts (list_all is_index_part parts) (is_set (numbers_of parts)) h).0
+tail-one tails.Indexes parts h = all-one is_index_part parts index-one h
+tail-one (tails.Multipliers most) parts h = all-one (is_pair most) parts (pair-one most) (and_parts (list_all (is_pair most) parts) (are_multipliers most (map pair_of parts)) h).0
+tail-one (tails.Pairs most) parts h = all-one (is_pair most) parts (pair-one most) (and_parts (list_all (is_pair most) parts) (are_pairs most (map pair_of parts)) h).0
+tail-one tails.Labels parts h = labels-one parts h
+
+-- and so are the leading numbers and what follows them
+parts-one : (ranges : List Range) (tail : Tail) (parts : List (List ℕ)) → is_read_line ranges tail parts ≡ true → list_all is_one_line parts ≡ true
+parts-one [] tail parts h = tail-one tail parts h
+parts-one (range ∷ ranges) tail [] h = absurd (false≢true h)
+parts-one (range ∷ ranges) tail (part ∷ parts) h =
+    let right = is_right_tail tail (drop (length ranges) parts) in
+    let all = and_parts (is_range_part range part && are_leading ranges parts) right h in
+    let both = and_parts (is_range_part range part) (are_leading ranges parts) all.0 in
+    and_from (is_one_line part) (list_all is_one_line parts)
+    (number-one part (and_parts (is_number part) (is_in_range range (number_of part)) both.0).0)
+    (parts-one ranges tail parts (and_from (are_leading ranges parts) right both.1 all.1))
+
+-- ---- lines of records and ends
 
 spread-one : (parts : List (List ℕ)) → list_all is_one_line parts ≡ true → is_one_line (spread parts) ≡ true
 spread-one [] h = refl
@@ -61,165 +139,162 @@ spread-one (part ∷ parts) h =
     let both = and_parts (is_one_line part) (list_all is_one_line parts) h in
     both-one part (spread parts) both.0 (spread-one parts both.1)
 
-index-small : (n : ℕ) → is_index n ≡ true → n < 2 ^ 64
-index-small n h = let small : n < 2 ^ 32 = ltb-true n (2 ^ 32) h in omega arith
+word-one : (kind : Kind) → is_one_line (layout_of kind).word ≡ true
+word-one kinds.Odd = refl
+word-one _ = refl
 
-count-small : (n : ℕ) → is_count n ≡ true → n < 2 ^ 64
-count-small n h = let small : n < 2 ^ 63 = ltb-true n (2 ^ 63) h in omega arith
+-- the line of a content that keeps the rules has no line feed
+line-one : (c : Content) → keeps_number_rules c ≡ true → is_one_line (line_with c) ≡ true
+line-one c h =
+    let parts = line_parts (c.numbers, c.items) in
+    let right = (kind-parts c.kind).right (c.numbers, c.items) h in
+    both-one (layout_of c.kind).word (spread parts) (word-one c.kind)
+    (spread-one parts (parts-one (layout_of c.kind).numbers (layout_of c.kind).tail parts right))
 
-most-small : (most n : ℕ) → most < 2 ^ 64 → is_from_one most n ≡ true → n < 2 ^ 64
-most-small most n low h = let small : n ≤ most = leb-true n most (and_parts (nat_le 1 n) (nat_le n most) h).1 in omega arith
+-- a record's line isn't read as an end line, and the line of an end is
+no-end : (item : Record) → is_end (line_of item) ≡ false
+no-end (Odd set) = refl
+no-end _ = refl
 
-step-one : (step : Step) → is_index step.street ≡ true → is_one_line (step_text step) ≡ true
-step-one step h = both-one (decimal step.street) (cond step.back (codes "-") (codes "+")) (number-one step.street (index-small step.street h)) (sign step.back)
-  where
-    sign : (back : Bool) → is_one_line (cond back (codes "-") (codes "+")) ≡ true
-    sign true = refl
-    sign false = refl
+end-is_end : (end : End) → is_end (end_line end) ≡ true
+end-is_end Infeasible = refl
+end-is_end _ = refl
 
-steps-one : (steps : List Step) → list_all (λ step. is_index step.street) steps ≡ true → list_all is_one_line (map step_text steps) ≡ true
-steps-one [] h = refl
-steps-one (step ∷ steps) h =
-    let both = and_parts (is_index step.street) (list_all (λ s. is_index s.street) steps) h in
-    and_from (is_one_line (step_text step)) (list_all is_one_line (map step_text steps)) (step-one step both.0) (steps-one steps both.1)
-
-pairs-one : (pairs : List (ℕ × ℕ)) → is_ascending (2 ^ 32 - 1) (map (λ q. q.0) pairs) ≡ true → list_all (λ q. is_from_one (2 ^ 60) q.1) pairs ≡ true → list_all is_one_line (map pair_text pairs) ≡ true
-pairs-one [] up range = refl
-pairs-one (pair ∷ pairs) up range =
-    let ups = and_parts (nat_le pair.0 (2 ^ 32 - 1) && list_all (nat_lt pair.0) (map (λ q. q.0) pairs)) (is_ascending (2 ^ 32 - 1) (map (λ q. q.0) pairs)) up in
-    let index = index-of_most pair.0 (and_parts (nat_le pair.0 (2 ^ 32 - 1)) (list_all (nat_lt pair.0) (map (λ q. q.0) pairs)) ups.0).0 in
-    let ranges = and_parts (is_from_one (2 ^ 60) pair.1) (list_all (λ q. is_from_one (2 ^ 60) q.1) pairs) range in
-    and_from (is_one_line (pair_text pair)) (list_all is_one_line (map pair_text pairs))
-    (both-one (decimal pair.0 ++ codes ":") (decimal pair.1) (both-one (decimal pair.0) (codes ":") (number-one pair.0 (index-small pair.0 index)) refl) (number-one pair.1 (most-small (2 ^ 60) pair.1 (omega arith) ranges.0)))
-    (pairs-one pairs ups.1 ranges.1)
-
--- a line that is read as one of a record
-record IsRecordLine (item : Record) : Type 0 where
-  one : is_one_line (line_of item) ≡ true
-  no_end : is_end (line_of item) ≡ false
-  no_later : is_later (line_of item) ≡ false
-
-tour-line_is : (cost : ℕ) (steps : List Step) → has_number_rules (Tour cost steps) ≡ true → IsRecordLine (Tour cost steps)
-tour-line_is cost steps h =
-    let both = and_parts (is_count cost && true) (list_all (λ step. is_index step.street) steps) h in
-    let count = and_parts (is_count cost) true both.0 in
-    record {
-      one = spread-one (decimal cost ∷ map step_text steps)
-          (and_from (is_one_line (decimal cost)) (list_all is_one_line (map step_text steps)) (number-one cost (count-small cost count.0)) (steps-one steps both.1));
-      no_end = refl;
-      no_later = refl;
-    }
-
-bound-line_is : (node den : ℕ) (mult : List (ℕ × ℕ)) → has_number_rules (Bound node den mult) ≡ true → IsRecordLine (Bound node den mult)
-bound-line_is node den mult h =
-    let both = and_parts (is_count node && (is_from_one (2 ^ 40) den && true)) (are_multipliers (2 ^ 60) mult) h in
-    let numbers = and_parts (is_count node) (is_from_one (2 ^ 40) den && true) both.0 in
-    let denominator = and_parts (is_from_one (2 ^ 40) den) true numbers.1 in
-    let pairs = and_parts (are_pairs (2 ^ 60) mult) (nat_le (length mult) 4096) both.1 in
-    let ranges = and_parts (is_ascending (2 ^ 32 - 1) (map (λ q. q.0) mult)) (list_all (λ q. is_from_one (2 ^ 60) q.1) mult) pairs.0 in
-    record {
-      one = spread-one (decimal node ∷ decimal den ∷ map pair_text mult)
-          (and_from (is_one_line (decimal node)) (list_all is_one_line (decimal den ∷ map pair_text mult)) (number-one node (count-small node numbers.0))
-          (and_from (is_one_line (decimal den)) (list_all is_one_line (map pair_text mult)) (number-one den (most-small (2 ^ 40) den (omega arith) denominator.0)) (pairs-one mult ranges.0 ranges.1)));
-      no_end = refl;
-      no_later = refl;
-    }
-
-record_line_is : (item : Record) → is_viewed item ≡ true → has_number_rules item ≡ true → IsRecordLine item
-record_line_is (Tour cost steps) v h = tour-line_is cost steps h
-record_line_is (Bound node den mult) v h = bound-line_is node den mult h
-record_line_is (Conn r1 r2 set) v h = absurd (false≢true v)
-record_line_is (Odd set) v h = absurd (false≢true v)
-record_line_is (Round divisor mult) v h = absurd (false≢true v)
-record_line_is (Kc k of) v h = absurd (false≢true v)
-record_line_is (Empty node mult) v h = absurd (false≢true v)
-record_line_is (Apart node r1 r2 set) v h = absurd (false≢true v)
-record_line_is (Point node den numbers) v h = absurd (false≢true v)
-record_line_is (Blind node) v h = absurd (false≢true v)
-record_line_is (Split node arc k) v h = absurd (false≢true v)
-record_line_is (Labels labels streets) v h = absurd (false≢true v)
-
--- the checker's judgement of the line of a record that keeps the rules and is judged
-item-judged : (town : Town) (s : Standing) (item : Record) → Tried town s item → judged_line town s (line_of item) ≡ Ok item
-item-judged town s item tried =
-    let is = record_line_is item tried.viewed tried.numbers in
-    let no_later = is.no_later in
-    let spells = line-spelled (line_of item) item (record { text = refl; numbers = tried.numbers }) in
-    let unbroken = tried.unbroken in
-    rw (no_later, spells, unbroken) refl
+-- the checker's judgement of the line of a record that keeps the rules
+item-judged : (town : Town) (s : Standing) (item : Record) → has_number_rules item ≡ true → broken_rule town s item ≡ None → judged_line town s (line_of item) ≡ Ok item
+item-judged town s item numbers unbroken =
+    let spells = line-spelled (line_of item) item (record { text = refl; numbers = numbers }) in
+    rw (spells, unbroken) refl
 
 -- ---- the end line
 
-end-numbers : (cost : ℕ) → is_count cost ≡ true → has_end_numbers (Optimal cost) ≡ true
-end-numbers cost count = and_from (is_count cost && true) true (and_from (is_count cost) true count refl) refl
-
-end-judged : (s : Standing) (cost : ℕ) → is_count cost ≡ true → agrees s (Optimal cost) ≡ true → judged_end s (end_line (Optimal cost)) ≡ Ok (Optimal cost)
-end-judged s cost count agreed =
-    let line = end_line (Optimal cost) in
-    let spells = end_line-spelled line (Optimal cost) (record { text = refl; numbers = end-numbers cost count }) in
+end-judged : (s : Standing) (end : End) → has_end_numbers end ≡ true → agrees s end ≡ true → judged_end s (end_line end) ≡ Ok end
+end-judged s end numbers agreed =
+    let spells = end_line-spelled (end_line end) end (record { text = refl; numbers = numbers }) in
     rw (spells, agreed) refl
 
-end-one : (cost : ℕ) → is_count cost ≡ true → is_one_line (end_line (Optimal cost)) ≡ true
-end-one cost h = both-one (decimal cost) [] (number-one cost (count-small cost h)) refl
+count-short : (n : ℕ) → is_count n ≡ true → length (decimal n) ≤ 20
+count-short n h =
+    let small : n < 2 ^ 63 = ltb-true n (2 ^ 63) h in
+    length-decimal-le 20 n (omega arith) (omega arith) (omega arith)
 
-end-short : (cost : ℕ) → is_count cost ≡ true → length (end_line (Optimal cost)) ≤ 2 ^ 24
-end-short cost h =
-    let small = count-small cost h in
-    let digits = length-decimal-le 20 cost (omega arith) (omega arith) small in
+end-short : (end : End) → has_end_numbers end ≡ true → length (end_line end) ≤ 2 ^ 24
+end-short (Optimal cost) h =
+    let digits = count-short cost (and_parts (is_count cost) true (and_parts (is_count cost && true) true h).0).0 in
     let all = length-append (decimal cost) [] in
     omega (arith, digits, all)
+end-short Infeasible h = omega arith
+end-short (Unfinished low high) h =
+    let both = and_parts (is_count low) (is_count high && true) (and_parts (is_count low && (is_count high && true)) true h).0 in
+    let first = count-short low both.0 in
+    let second = count-short high (and_parts (is_count high) true both.1).0 in
+    let all = length-append (decimal low) (32 ∷ decimal high ++ []) in
+    let last = length-append (decimal high) [] in
+    omega (arith, first, second, all, last)
 
--- ---- the cost of the cheapest tour is a count
+-- ---- the numbers of an end that agrees are counts
 
-min-count : (a b : ℕ) → is_count a ≡ true → is_count b ≡ true → is_count (min a b) ≡ true
-min-count a b one two =
-    let low : a < 2 ^ 63 = ltb-true a (2 ^ 63) one in
-    let high : b < 2 ^ 63 = ltb-true b (2 ^ 63) two in
-    lt-ltb (min a b) (2 ^ 63) (omega arith)
+at-most-count : (a b : ℕ) → is_count b ≡ true → a ≤ b → is_count a ≡ true
+at-most-count a b count below = let small : b < 2 ^ 63 = ltb-true b (2 ^ 63) count in lt-ltb a (2 ^ 63) (omega arith)
+
+min-count : (a b : ℕ) → is_count a ≡ true → is_count (min a b) ≡ true
+min-count a b count = at-most-count (min a b) a count (omega arith)
 
 tour-counted : (upper : Option ℕ) (cost : ℕ) → option_map_or is_count upper true ≡ true → is_count cost ≡ true → is_count (option_map_or (min cost) upper cost) ≡ true
 tour-counted None cost h count = count
-tour-counted (Some other) cost h count = min-count cost other count h
+tour-counted (Some other) cost h count = min-count cost other count
 
-item-counted : (town : Town) (s : Standing) (item : Record) → is_viewed item ≡ true → has_number_rules item ≡ true → option_map_or is_count s.upper true ≡ true → option_map_or is_count (after town s item).upper true ≡ true
-item-counted town s (Tour cost steps) v h upper = tour-counted s.upper cost upper (and_parts (is_count cost) true (and_parts (is_count cost && true) (list_all (λ step. is_index step.street) steps) h).0).0
-item-counted town s (Bound node den mult) v h upper = upper
-item-counted town s (Conn r1 r2 set) v h upper = upper
-item-counted town s (Odd set) v h upper = upper
-item-counted town s (Round divisor mult) v h upper = upper
-item-counted town s (Kc k of) v h upper = upper
-item-counted town s (Empty node mult) v h upper = upper
-item-counted town s (Apart node r1 r2 set) v h upper = upper
-item-counted town s (Point node den numbers) v h upper = upper
-item-counted town s (Blind node) v h upper = upper
-item-counted town s (Split node arc k) v h upper = upper
-item-counted town s (Labels labels streets) v h upper = upper
+item-counted : (town : Town) (s : Standing) (item : Record) → has_number_rules item ≡ true → option_map_or is_count s.upper true ≡ true → option_map_or is_count (after town s item).upper true ≡ true
+item-counted town s (Tour cost steps) h upper = tour-counted s.upper cost upper (and_parts (is_count cost) true (and_parts (is_count cost && true) (list_all (λ step. is_index step.street) steps) h).0).0
+item-counted town s _ h upper = upper
 
 -- the first of these records, and the others
 record First (town : Town) (s : Standing) (item : Record) (items : List Record) : Type 0 where
-  tried : Tried town s item
+  unbroken : broken_rule town s item ≡ None
+  numbers : has_number_rules item ≡ true
   valid : goes_on town (after town s item) items ≡ true
-  judged : go_on_judged town (after town s item) items ≡ true
 
 none_is : (o : Option Rule) → is_none o ≡ true → o ≡ None
 none_is None h = refl
 none_is (Some rule) h = absurd (false≢true h)
 
-first_of_records : (town : Town) (s : Standing) (item : Record) (items : List Record) → goes_on town s (item ∷ items) ≡ true → go_on_judged town s (item ∷ items) ≡ true → First town s item items
-first_of_records town s item items valid judged =
-    let both = and_parts (is_none (broken_rule town s item)) (goes_on town (after town s item) items) valid in
-    let each = and_parts (is_judged town s item) (go_on_judged town (after town s item) items) judged in
-    record { tried = passes-tried town s item (none_is (broken_rule town s item) both.0) each.0; valid = both.1; judged = each.1 }
+some_bad : (rule : Rule) → Some rule ≡ None → ⊥
+some_bad rule h = cc
 
-all-counted : (town : Town) (s : Standing) (records : List Record) → goes_on town s records ≡ true → go_on_judged town s records ≡ true → option_map_or is_count s.upper true ≡ true → option_map_or is_count (fold (after town) s records).upper true ≡ true
-all-counted town s [] valid judged upper = upper
-all-counted town s (item ∷ items) valid judged upper =
-    let first = first_of_records town s item items valid judged in
-    all-counted town (after town s item) items first.valid first.judged (item-counted town s item first.tried.viewed first.tried.numbers upper)
+-- the first rule of each record is that of its numbers
+numbers_kept : (numbers : Bool) (others : List (Rule × Bool)) → first_broken ((rules.Number, numbers) ∷ others) ≡ None → numbers ≡ true
+numbers_kept true others h = refl
+numbers_kept false others h = absurd (some_bad rules.Number h)
+
+first_of_records : (town : Town) (s : Standing) (item : Record) (items : List Record) → goes_on town s (item ∷ items) ≡ true → First town s item items
+first_of_records town s item items valid =
+    let both = and_parts (is_none (broken_rule town s item)) (goes_on town (after town s item) items) valid in
+    let unbroken = none_is (broken_rule town s item) both.0 in
+    record {
+      unbroken = unbroken;
+      numbers = numbers_kept (has_number_rules item) ((rules.Lonely, is_alone s item) ∷ rules_of town s item) unbroken;
+      valid = both.1;
+    }
+
+all-counted : (town : Town) (s : Standing) (records : List Record) → goes_on town s records ≡ true → option_map_or is_count s.upper true ≡ true → option_map_or is_count (fold (after town) s records).upper true ≡ true
+all-counted town s [] valid upper = upper
+all-counted town s (item ∷ items) valid upper =
+    let first = first_of_records town s item items valid in
+    all-counted town (after town s item) items first.valid (item-counted town s item first.numbers upper)
 
 cost-counted : (upper : Option ℕ) (cost : ℕ) → option_map_or is_count upper true ≡ true → option_map_or (λ other. other == cost) upper false ≡ true → is_count cost ≡ true
 cost-counted None cost h same = absurd (false≢true same)
 cost-counted (Some other) cost h same = subst (λ n. is_count n ≡ true) (eqb-true other cost same) h
+
+-- a bound, where there is one, is at most this cost
+abbrev IsWithin : ℕ → Option ℤ → Type 0
+IsWithin cost o = IfSome o (λ bound. bound ≤ℤ pos cost)
+
+-- the bound of an open node is below the cheapest tour, and so is the least of these
+least-within : (upper : Option ℕ) (cost : ℕ) → option_map_or (λ other. other == cost) upper false ≡ true → (nodes : List Node) → IsWithin cost (least_bound (filter (is_open upper) nodes))
+least-within upper cost same [] = tt
+least-within upper cost same (node ∷ nodes) = by (is_open upper node) refl (least-within upper cost same nodes)
+  where
+    others : List Node
+    others = filter (is_open upper) nodes
+
+    below : (o : Option ℕ) → option_map_or (λ other. other == cost) o false ≡ true → is_below node.bound o ≡ true → node.bound ≤ℤ pos cost
+    below None none h = absurd (false≢true none)
+    below (Some other) is h = let at = eqb-true other cost is in omega (arith, linear, tests)
+
+    least : (o : Option ℤ) → node.bound ≤ℤ pos cost → IsWithin cost o → option_map_or (int_min node.bound) o node.bound ≤ℤ pos cost
+    least None h rest = h
+    least (Some bound) h rest = one_of (int_lt bound node.bound)
+      where
+        one_of : (b : Bool) → cond b bound node.bound ≤ℤ pos cost
+        one_of true = rest
+        one_of false = h
+
+    by : (b : Bool) → is_open upper node ≡ b → IsWithin cost (least_bound others) → IsWithin cost (least_bound (cond b (node ∷ others) others))
+    by true open_at rest = least (least_bound others) (below upper same (and_parts (not node.is_closed) (is_below node.bound upper) open_at).1) rest
+    by false closed rest = rest
+
+low-counted : (upper : Option ℕ) (least : Option ℤ) (low high : ℕ) → is_count high ≡ true → option_map_or (λ other. other == high) upper false ≡ true → IsWithin high least → option_map_or (int_eq (pos low)) (option_or least (option_map pos upper)) false ≡ true → is_count low ≡ true
+low-counted upper (Some bound) low high count same most is =
+    let both = and_parts (int_le (pos low) bound) (int_le bound (pos low)) is in
+    at-most-count low high count (omega (arith, linear, tests))
+low-counted None None low high count same most is = absurd (false≢true is)
+low-counted (Some other) None low high count same most is =
+    let both = and_parts (int_le (pos low) (pos other)) (int_le (pos other) (pos low)) is in
+    let at = eqb-true other high same in
+    at-most-count low high count (omega (arith, linear, tests))
+
+end-counted : (s : Standing) (end : End) → option_map_or is_count s.upper true ≡ true → agrees s end ≡ true → has_end_numbers end ≡ true
+end-counted s (Optimal cost) upper agreed =
+    let count = cost-counted s.upper cost upper (and_parts (is_done s) (is_upper s cost) agreed).1 in
+    and_from (is_count cost && true) true (and_from (is_count cost) true count refl) refl
+end-counted s Infeasible upper agreed = refl
+end-counted s (Unfinished low high) upper agreed =
+    let both = and_parts (not (is_done s) && is_upper s high) (option_map_or (int_eq (pos low)) (lower s) false) agreed in
+    let same = (and_parts (not (is_done s)) (is_upper s high) both.0).1 in
+    let count = cost-counted s.upper high upper same in
+    let first = low-counted s.upper (least_bound (open_nodes s)) low high count same (least-within s.upper high same s.nodes) both.1 in
+    and_from (is_count low && (is_count high && true)) true (and_from (is_count low) (is_count high && true) first (and_from (is_count high) true count refl)) refl
 
 -- ---- all lines
 
@@ -227,45 +302,41 @@ short : (limit taken own : ℕ) (line : List ℕ) → length line ≤ limit → 
 short limit taken own line low fits = or_from (nat_lt limit (length line)) (nat_lt most_bytes (taken + own)) (le-ltb limit (length line) low) (le-ltb most_bytes (taken + own) fits)
 
 -- the lines of records, and of the end that agrees with them
-lines-accepted : (town : Town) (limit : ℕ) (s : Standing) (number taken : ℕ) (records : List Record) (cost : ℕ) → 2 ^ 24 ≤ limit → is_count cost ≡ true → goes_on town s records ≡ true → go_on_judged town s records ≡ true → agrees (fold (after town) s records) (Optimal cost) ≡ true → AllByRecursion (λ item. length (line_of item) ≤ limit) records → taken + length (record_lines records ++ ended (end_line (Optimal cost))) ≤ 2 ^ 40 → verdict_on town (behind_records limit s number taken) (record_lines records ++ ended (end_line (Optimal cost))) ≡ Accepted (Optimal cost)
-lines-accepted town limit s number taken [] cost high count valid judged agreed low whole =
-    let line = end_line (Optimal cost) in
-    let few = end-short cost count in
+lines-accepted : (town : Town) (limit : ℕ) (s : Standing) (number taken : ℕ) (records : List Record) (end : End) → 2 ^ 24 ≤ limit → has_end_numbers end ≡ true → goes_on town s records ≡ true → agrees (fold (after town) s records) end ≡ true → AllByRecursion (λ item. length (line_of item) ≤ limit) records → taken + length (record_lines records ++ ended (end_line end)) ≤ 2 ^ 40 → verdict_on town (behind_records limit s number taken) (record_lines records ++ ended (end_line end)) ≡ Accepted end
+lines-accepted town limit s number taken [] end high numbers valid agreed low whole =
+    let line = end_line end in
+    let few = end-short end numbers in
     let all = length-append line (10 ∷ []) in
-    verdict-accepted town limit s number taken line [] (end-one cost count) (short limit taken (length line + 1) line (omega (arith, few)) (omega (arith, whole, all))) (Optimal cost) refl (end-judged s cost count agreed) refl
-lines-accepted town limit s number taken (item ∷ items) cost high count valid judged agreed low whole =
-    let first = first_of_records town s item items valid judged in
-    let is = record_line_is item first.tried.viewed first.tried.numbers in
+    verdict-accepted town limit s number taken line [] (line-one (content_of_end end) numbers) (short limit taken (length line + 1) line (omega (arith, few)) (omega (arith, whole, all))) end (end-is_end end) (end-judged s end numbers agreed) refl
+lines-accepted town limit s number taken (item ∷ items) end high numbers valid agreed low whole =
+    let first = first_of_records town s item items valid in
     let line = line_of item in
-    let tail = ended (end_line (Optimal cost)) in
+    let tail = ended (end_line end) in
     let bytes = record_lines items ++ tail in
     let cut : (ended line ++ record_lines items) ++ tail ≡ line ++ 10 ∷ bytes = append_assoc (ended line) (record_lines items) tail ∙ append_assoc line (10 ∷ []) bytes in
     let size = ap length cut in
     let all = length-append line (10 ∷ bytes) in
     ap (verdict_on town (behind_records limit s number taken)) cut
-    ∙ verdict-goes town limit s number taken line bytes is.one (short limit taken (length line + 1) line low.0 (omega (arith, whole, size, all))) item is.no_end (item-judged town s item first.tried)
-    ∙ lines-accepted town limit (after town s item) (number + 1) (taken + (length line + 1)) items cost high count first.valid first.judged agreed low.1 (omega (arith, whole, size, all))
+    ∙ verdict-goes town limit s number taken line bytes (line-one (content_of item) first.numbers) (short limit taken (length line + 1) line low.0 (omega (arith, whole, size, all))) item (no-end item) (item-judged town s item first.numbers first.unbroken)
+    ∙ lines-accepted town limit (after town s item) (number + 1) (taken + (length line + 1)) items end high numbers first.valid agreed low.1 (omega (arith, whole, size, all))
 
 -- ---- whole proofs
 
 -- behind a version line that the town may use
-version-accepted : (town : Town) (version : Version) (records : List Record) (cost : ℕ) (bytes : List ℕ) → is_one_line version.line ≡ true → is_long version_1.limit 0 version.line (length version.line + 1) ≡ false → limit_of town version.line ≡ Some version.limit → 2 ^ 24 ≤ version.limit → are_judged town records ≡ true → IsProofBy town version records (Optimal cost) bytes → verdict town bytes ≡ Accepted (Optimal cost)
-version-accepted town version records cost bytes one low named high judged proved =
-    let tail = ended (end_line (Optimal cost)) in
+version-accepted : (town : Town) (version : Version) (records : List Record) (end : End) (bytes : List ℕ) → is_one_line version.line ≡ true → is_long version_1.limit 0 version.line (length version.line + 1) ≡ false → limit_of town version.line ≡ Some version.limit → 2 ^ 24 ≤ version.limit → IsProofBy town version records end bytes → verdict town bytes ≡ Accepted end
+version-accepted town version records end bytes one low named high proved =
+    let tail = ended (end_line end) in
     let behind = record_lines records ++ tail in
-    let ends = and_parts (is_done (standing town records)) (is_upper (standing town records) cost) proved.agreeing in
-    let count = cost-counted (standing town records).upper cost (all-counted town (start town) records proved.valid judged refl) ends.1 in
+    let numbers = end-counted (standing town records) end (all-counted town (start town) records proved.valid refl) proved.agreeing in
     let cut : bytes ≡ version.line ++ 10 ∷ behind = proved.text ∙ append_assoc (ended version.line) (record_lines records) tail ∙ append_assoc version.line (10 ∷ []) behind in
     let size = ap length cut in
     let all = length-append version.line (10 ∷ behind) in
     let whole = proved.whole in
     ap (verdict town) cut
     ∙ verdict-started town version.line behind version.limit one low named
-    ∙ lines-accepted town version.limit (start town) 2 (length version.line + 1) records cost high count proved.valid judged proved.agreeing proved.lines (omega (arith, whole, size, all))
+    ∙ lines-accepted town version.limit (start town) 2 (length version.line + 1) records end high numbers proved.valid proved.agreeing proved.lines (omega (arith, whole, size, all))
 
--- a proof that is judged, each record and its end, is accepted
-pub judged-accepted : (town : Town) (bytes : List ℕ) (end : End) → IsJudgedProof town end bytes → verdict town bytes ≡ Accepted end
-judged-accepted town bytes (Optimal cost) (records, judged, last, inl second) = version-accepted town version_2 records cost bytes refl refl refl (omega arith) judged second
-judged-accepted town bytes (Optimal cost) (records, judged, last, inr (small, first)) = version-accepted town version_1 records cost bytes refl refl (ap (λ b. cond b (Some version_1.limit) None) small) (omega arith) judged first
-judged-accepted town bytes Infeasible (records, judged, last, proved) = absurd (false≢true last)
-judged-accepted town bytes (Unfinished low high) (records, judged, last, proved) = absurd (false≢true last)
+-- each proof is accepted
+pub proof_is_accepted : (town : Town) (end : End) (bytes : List ℕ) → IsProof town end bytes → verdict town bytes ≡ Accepted end
+proof_is_accepted town end bytes (records, inl second) = version-accepted town version_2 records end bytes refl refl refl (omega arith) second
+proof_is_accepted town end bytes (records, inr (small, first)) = version-accepted town version_1 records end bytes refl refl (ap (λ b. cond b (Some version_1.limit) None) small) (omega arith) first

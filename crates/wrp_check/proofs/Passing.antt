@@ -12,21 +12,19 @@ use Rattle.wrp_rules.specs.declared.record.End.{End}
 use Rattle.wrp_rules.specs.declared.rule.Rule.{Rule}
 use Rattle.wrp_rules.specs.declared.rule.Rule.TheVariants as rules
 use Rattle.wrp_rules.specs.Nodes.{Standing, start, after}
-use Rattle.wrp_rules.specs.Proofs.{version_1, version_2, IsProof}
+use Rattle.wrp_rules.specs.Proofs.{version_1, version_2, most_bytes, IsProof}
 use Rattle.wrp_laws.specs.Ends.{EndHolds}
 use Rattle.wrp_check.specs.declared.judge.Judge.{Judge}
 use Rattle.wrp_check.specs.declared.pass.CheckFault.{CheckFault}
 use Rattle.wrp_check.specs.declared.pass.CheckFault.TheVariants as faults
 use Rattle.wrp_check.specs.declared.pass.Progress.{Progress}
-use Rattle.wrp_rules.specs.Proofs.{most_bytes}
 use Rattle.wrp_check.specs.Streams.{Buffered, ahead}
 use Rattle.wrp_proof.specs.JudgedLines.{judged_line, judged_end, is_end}
 use Rattle.wrp_check.specs.Verdicts.{Verdict, Accepted, Stage, Next, Over, Place, limit_of, is_long, stage_behind, verdict, verdict_on, first_place, FaultIs, FaultOn, AnswerIs}
 use Rattle.wrp_check.specs.Judging.{Stands, Judges}
 use Rattle.wrp_check.specs.Passes.{TakesLine, Unread, Behind, Begins, place_of, GoesOn, Closes, Reaches, Whole}
-use Rattle.wrp_check.specs.Accepted.{IsJudgedProof}
-use Rattle.wrp_check.proofs.Soundness.{verdict-judged, judged-proof, judged-holds}
-use Rattle.wrp_check.proofs.Completeness.{judged-accepted}
+use Rattle.wrp_check.proofs.Soundness.{accepted_is_proof, proof_holds}
+use Rattle.wrp_check.proofs.Completeness.{proof_is_accepted}
 use Rattle.wrp_check.proofs.VerdictSteps.{IsOpen, open_first, open_next, verdict-missing, verdict-passes, verdict-closed, verdict-after, after_end, step-goes, step-refused}
 
 some_same : {a b : ℕ} → Some a ≡ Some b → a ≡ b
@@ -229,14 +227,7 @@ nothing_left lines source empty = by source.left empty
     by None h = tt
     by (Some left) h = no_bytes lines.pending left h
 
--- ---- the law, and the answer of the checker
-
--- the verdict accepts exactly the judged proofs
-pub accepts_judged : (town : Town) (end : End) (bytes : List ℕ) → IsJudgedProof town end bytes → verdict town bytes ≡ Accepted end
-accepts_judged town end bytes proved = judged-accepted town bytes end proved
-
-pub judged_accepts : (town : Town) (end : End) (bytes : List ℕ) → verdict town bytes ≡ Accepted end → IsJudgedProof town end bytes
-judged_accepts town end bytes said = verdict-judged town bytes end said
+-- ---- the answer of the checker
 
 -- what is said of the one text holds of each that is told
 told_same : (P : List ℕ → Type 0) (told : Option (List ℕ)) (bytes : List ℕ) → Tells told bytes → P bytes → IfSome told P
@@ -248,13 +239,13 @@ exact_answer town first (Ok end) all fault = told_same (λ bytes. verdict town b
 exact_answer town first (Err other) all fault = fault
 
 pub accepted_answer : (town : Town) (first : Input) (answer : Result End CheckFault) → IfOk answer (λ end. Whole town first end) → IfOk answer (λ end. IfSome first.left (λ bytes. IsProof town end bytes))
-accepted_answer town first (Ok end) all = told_same (λ bytes. IsProof town end bytes) first.left all.bytes all.tells (judged-proof town end all.bytes (judged_accepts town end all.bytes all.said))
+accepted_answer town first (Ok end) all = told_same (λ bytes. IsProof town end bytes) first.left all.bytes all.tells (accepted_is_proof town end all.bytes all.said)
 accepted_answer town first (Err other) all = tt
 
 pub true_answer : (town : Town) (first : Input) (answer : Result End CheckFault) → IfOk answer (λ end. Whole town first end) → IfOk answer (λ end. EndHolds town end)
-true_answer town first (Ok end) all = judged-holds town end all.bytes (judged_accepts town end all.bytes all.said)
+true_answer town first (Ok end) all = proof_holds town end all.bytes (accepted_is_proof town end all.bytes all.said)
 true_answer town first (Err other) all = tt
 
-pub accepting_answer : (town : Town) (told : Option (List ℕ)) (answer : Result End CheckFault) → IfSome told (λ bytes. AnswerIs answer (verdict town bytes)) → IfSome told (λ bytes. (end : End) → IsJudgedProof town end bytes → AnswerIs answer (Accepted end))
+pub accepting_answer : (town : Town) (told : Option (List ℕ)) (answer : Result End CheckFault) → IfSome told (λ bytes. AnswerIs answer (verdict town bytes)) → IfSome told (λ bytes. (end : End) → IsProof town end bytes → AnswerIs answer (Accepted end))
 accepting_answer town None answer exact = tt
-accepting_answer town (Some bytes) answer exact = λ end proved. subst (AnswerIs answer) (accepts_judged town end bytes proved) exact
+accepting_answer town (Some bytes) answer exact = λ end proved. subst (AnswerIs answer) (proof_is_accepted town end bytes proved) exact

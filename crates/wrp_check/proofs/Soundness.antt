@@ -2,35 +2,27 @@
 use Rattle.std.proofs.Common.{inl, inr, ◌⊎◌, ◌≡◌, ℕ, ◌+◌, ◌≤◌, ◌^◌, Bool, true, false, cond, ◌&&◌, ◌==◌, nat_lt, List, [], ◌∷◌, ◌++◌, length, fold, Option, None, Some, is_none, Result, Ok, Err, refl, sym, ap, ◌∙◌, subst, arith, length-append, append_assoc, zero-add}
 use Rattle.std.specs.List.{AllByRecursion, join_with_byte}
 use Rattle.std.specs.Str.{bytes_eq}
-use Rattle.std.proofs.lemmas.Bool.{and_parts, and_from, or_parts, ltb-false, false≢true}
+use Rattle.std.proofs.lemmas.Bool.{and_parts, and_from, or_parts, ltb-false}
 use Rattle.std.proofs.lemmas.List.Splits.{join_with_byte-slice_split}
 use Rattle.std.proofs.lemmas.Slice.Eq.{bytes_eq-Decides}
 use Rattle.wrp_town.specs.declared.town.Town.{Town}
 use Rattle.wrp_town.specs.Arcs.{is_small}
 use Rattle.wrp_rules.specs.declared.record.Record.{Record}
 use Rattle.wrp_rules.specs.declared.record.End.{End}
-use Rattle.wrp_rules.specs.declared.record.End.TheVariants.{Optimal, Infeasible, Unfinished}
 use Rattle.wrp_rules.specs.declared.rule.Rule.{Rule}
 use Rattle.wrp_rules.specs.declared.rule.Rule.TheVariants as rules
 use Rattle.wrp_rules.specs.Nodes.{Standing, start, after}
 use Rattle.wrp_rules.specs.Lines.{line_of, end_line}
 use Rattle.wrp_rules.specs.Lists.{goes_on, agrees}
 use Rattle.wrp_rules.specs.Rules.{broken_rule}
-use Rattle.wrp_rules.specs.Judged.{is_judged, go_on_judged, judged_rule}
-use Rattle.wrp_proof.specs.Views.{is_later}
 use Rattle.wrp_grammar.specs.Spelling.{spelled, spelled_end}
 use Rattle.wrp_grammar.specs.Shapes.{has_shape, has_end_shape}
-use Rattle.wrp_proof.specs.Ends.{is_later_end}
-use Rattle.wrp_rules.specs.Proofs.{Version, version_1, version_2, ended, record_lines, IsProofBy, IsProof}
-use Rattle.wrp_proof.proofs.LineLaws.{spelled-end_line}
-use Rattle.wrp_proof.proofs.SpelledLaws.{spelled_viewed, judged-passes}
+use Rattle.wrp_rules.specs.Proofs.{Version, version_1, version_2, most_bytes, ended, record_lines, IsProofBy, IsProof}
+use Rattle.wrp_proof.proofs.LineLaws.{spelled-line, spelled-end_line}
 use Rattle.wrp_laws.specs.Ends.{EndHolds}
 use Rattle.wrp_laws.proofs.AllEnds.{proved_end}
-use Rattle.wrp_rules.specs.Proofs.{most_bytes}
 use Rattle.wrp_proof.specs.JudgedLines.{unless, judged_record, judged_line, agreeing_end, judged_end, is_end}
-use Rattle.wrp_rules.specs.Judged.{is_judged_end}
 use Rattle.wrp_check.specs.Verdicts.{Verdict, Accepted, Refused, Long, Stage, Next, Over, Place, is_long, is_too_long, limit_of, stage_of, next_stage, last_stage, stage_behind, behind, step, follow, verdict_along, first_place, over_lines, verdict}
-use Rattle.wrp_check.specs.Accepted.{IsJudgedProof}
 use Rattle.wrp_check.proofs.LineCuts.{lines_of}
 use Rattle.wrp_check.proofs.VerdictSteps.{place_behind, behind_records, after_end}
 
@@ -64,32 +56,27 @@ ok_value x y h = cc
 none_bad : {A : Type 0} (x : A) → None ≡ Some x → ⊥
 none_bad x h = cc
 
--- ---- lines that are judged
+-- ---- lines that are taken
 
--- the line is that of a record that keeps the rules and is judged
-record IsJudgedLine (town : Town) (s : Standing) (line : List ℕ) (item : Record) : Type 0 where
+-- the line is that of a record that keeps the rules
+record IsRecordLine (town : Town) (s : Standing) (line : List ℕ) (item : Record) : Type 0 where
   text : line_of item ≡ line
   unbroken : broken_rule town s item ≡ None
-  judged : is_judged town s item ≡ true
 
 unless_ok : {A : Type 0} (o : Option Rule) (x y : A) → unless o x ≡ Ok y → (o ≡ None) × (x ≡ y)
 unless_ok None x y h = (refl, ok_value x y h)
 unless_ok (Some rule) x y h = absurd (err_bad rule y h)
 
-record_ok : (town : Town) (s : Standing) (fault : Rule) (found : Option Record) (item : Record) → judged_record town s fault found ≡ Ok item → (found ≡ Some item) × (judged_rule town s item ≡ None)
+record_ok : (town : Town) (s : Standing) (fault : Rule) (found : Option Record) (item : Record) → judged_record town s fault found ≡ Ok item → (found ≡ Some item) × (broken_rule town s item ≡ None)
 record_ok town s fault None item h = absurd (err_bad fault item h)
 record_ok town s fault (Some other) item h =
-    let both = unless_ok (judged_rule town s other) other item h in
-    (ap Some both.1, subst (λ x. judged_rule town s x ≡ None) both.1 both.0)
+    let both = unless_ok (broken_rule town s other) other item h in
+    (ap Some both.1, subst (λ x. broken_rule town s x ≡ None) both.1 both.0)
 
-line_ok : (town : Town) (s : Standing) (line : List ℕ) (item : Record) → judged_line town s line ≡ Ok item → IsJudgedLine town s line item
+line_ok : (town : Town) (s : Standing) (line : List ℕ) (item : Record) → judged_line town s line ≡ Ok item → IsRecordLine town s line item
 line_ok town s line item h =
-    let fault = cond (has_shape line) rules.Number rules.Form in
-    let tried = chosen (is_later line) (Err rules.Later) (judged_record town s fault (spelled line)) (Ok item) (err_bad rules.Later item) h in
-    let found = record_ok town s fault (spelled line) item tried.1 in
-    let spells = spelled_viewed line item found.0 tried.0 in
-    let passes = judged-passes town s item spells.viewed found.1 in
-    record { text = spells.spells.text; unbroken = passes.unbroken; judged = passes.judged }
+    let found = record_ok town s (cond (has_shape line) rules.Number rules.Form) (spelled line) item h in
+    record { text = (spelled-line line item found.0).text; unbroken = found.1 }
 
 agreeing_ok : (s : Standing) (fault : Rule) (found : Option End) (end : End) → agreeing_end s fault found ≡ Ok end → (found ≡ Some end) × (agrees s end ≡ true)
 agreeing_ok s fault None end h = absurd (err_bad fault end h)
@@ -98,25 +85,15 @@ agreeing_ok s fault (Some other) end h =
     let same = ok_value other end both.1 in
     (ap Some same, subst (λ x. agrees s x ≡ true) same both.0)
 
--- an end whose line is none of a later kind is judged
-not_later : (end : End) → is_later_end (end_line end) ≡ false → is_judged_end end ≡ true
-not_later (Optimal cost) h = refl
-not_later Infeasible h = absurd (false≢true (sym h))
-not_later (Unfinished low high) h = absurd (false≢true (sym h))
-
--- the line is that of an end that agrees and is judged
+-- the line is that of an end that agrees
 record IsEndLine (s : Standing) (line : List ℕ) (end : End) : Type 0 where
   text : end_line end ≡ line
   agreeing : agrees s end ≡ true
-  judged : is_judged_end end ≡ true
 
 end_ok : (s : Standing) (line : List ℕ) (end : End) → judged_end s line ≡ Ok end → IsEndLine s line end
 end_ok s line end h =
-    let fault = cond (has_end_shape line) rules.Number rules.Form in
-    let tried = chosen (is_later_end line) (Err rules.Later) (agreeing_end s fault (spelled_end line)) (Ok end) (err_bad rules.Later end) h in
-    let found = agreeing_ok s fault (spelled_end line) end tried.1 in
-    let text = (spelled-end_line line end found.0).text in
-    record { text = text; agreeing = found.1; judged = not_later end (subst (λ bytes. is_later_end bytes ≡ false) (sym text) tried.0) }
+    let found = agreeing_ok s (cond (has_end_shape line) rules.Number rules.Form) (spelled_end line) end h in
+    record { text = (spelled-end_line line end found.0).text; agreeing = found.1 }
 
 -- ---- steps that are taken
 
@@ -154,9 +131,7 @@ pub record Proves (town : Town) (limit : ℕ) (s : Standing) (taken : ℕ) (end 
   pub records : List Record
   pub text : bytes ≡ record_lines records ++ ended (end_line end)
   pub valid : goes_on town s records ≡ true
-  pub judged : go_on_judged town s records ≡ true
   pub agreeing : agrees (fold (after town) s records) end ≡ true
-  pub last : is_judged_end end ≡ true
   pub lines : AllByRecursion (λ item. length (line_of item) ≤ limit) records
   pub whole : taken + length bytes ≤ 2 ^ 40
 
@@ -183,15 +158,13 @@ ends_here town limit s taken end line next others short is no_line no_others =
       records = [];
       text = text;
       valid = refl;
-      judged = refl;
       agreeing = found.agreeing;
-      last = found.judged;
       lines = tt;
       whole = omega (arith, fits.1, all, rest);
     }
 
 -- a record's line before the lines of others
-goes_before : (town : Town) (limit : ℕ) (s : Standing) (taken : ℕ) (end : End) (line bytes : List ℕ) (item : Record) → is_long limit taken line (length line + 1) ≡ false → IsJudgedLine town s line item → Proves town limit (after town s item) (taken + (length line + 1)) end bytes → Proves town limit s taken end (line ++ 10 ∷ bytes)
+goes_before : (town : Town) (limit : ℕ) (s : Standing) (taken : ℕ) (end : End) (line bytes : List ℕ) (item : Record) → is_long limit taken line (length line + 1) ≡ false → IsRecordLine town s line item → Proves town limit (after town s item) (taken + (length line + 1)) end bytes → Proves town limit s taken end (line ++ 10 ∷ bytes)
 goes_before town limit s taken end line bytes item short found rest =
     let fits = within limit taken (length line + 1) line short in
     let all = length-append line (10 ∷ bytes) in
@@ -204,9 +177,7 @@ goes_before town limit s taken end line bytes item short found rest =
           ∙ sym (append_assoc (line_of item) (10 ∷ []) behind)
           ∙ sym (append_assoc (ended (line_of item)) (record_lines rest.records) (ended (end_line end)));
       valid = and_from (is_none (broken_rule town s item)) (goes_on town (after town s item) rest.records) (ap is_none found.unbroken) rest.valid;
-      judged = and_from (is_judged town s item) (go_on_judged town (after town s item) rest.records) found.judged rest.judged;
       agreeing = rest.agreeing;
-      last = rest.last;
       lines = (subst (λ text. length text ≤ limit) (sym found.text) fits.0, rest.lines);
       whole = omega (arith, all, whole);
     }
@@ -273,8 +244,8 @@ proof_by town version end line bytes limit taken own same_limit same_line proves
       whole = omega (arith, own, all, whole);
     }
 
-judged_by : (town : Town) (end : End) (line bytes : List ℕ) (limit : ℕ) → IsVersion town line limit → Proves town limit (start town) (length line + 1) end bytes → IsJudgedProof town end (line ++ 10 ∷ bytes)
-judged_by town end line bytes limit named proves = (proves.records, proves.judged, proves.last, by_version named.version)
+proof_of : (town : Town) (end : End) (line bytes : List ℕ) (limit : ℕ) → IsVersion town line limit → Proves town limit (start town) (length line + 1) end bytes → IsProof town end (line ++ 10 ∷ bytes)
+proof_of town end line bytes limit named proves = (proves.records, by_version named.version)
   where
     by_version : (limit ≡ version_2.limit) × (line ≡ version_2.line) ⊎ ((is_small town ≡ true) × (limit ≡ version_1.limit) × (line ≡ version_1.line)) → IsProofBy town version_2 proves.records end (line ++ 10 ∷ bytes) ⊎ ((is_small town ≡ true) × IsProofBy town version_1 proves.records end (line ++ 10 ∷ bytes))
     by_version (inl second) = inl (proof_by town version_2 end line bytes limit (length line + 1) refl second.0 second.1 proves)
@@ -284,31 +255,27 @@ version_ok : (town : Town) (answer : Option ℕ) (stage : Stage) → stage_of to
 version_ok town None stage h = absurd (err_bad rules.Start stage h)
 version_ok town (Some limit) stage h = (limit, refl, sym (ok_value (Next limit (start town)) stage h))
 
-first_accepted : (town : Town) (line : List ℕ) (lines : List (List ℕ)) (end : End) → verdict_along town first_place line lines ≡ Accepted end → IsJudgedProof town end (joined (line ∷ lines))
+first_accepted : (town : Town) (line : List ℕ) (lines : List (List ℕ)) (end : End) → verdict_along town first_place line lines ≡ Accepted end → IsProof town end (joined (line ∷ lines))
 unfolding verdict_along
 first_accepted town line [] end h = absurd (refused_bad 1 rules.Missing end (chosen (is_long version_1.limit 0 line (length line)) Long (Refused 1 rules.Missing) (Accepted end) (long_bad end) h).1)
 first_accepted town line (next ∷ others) end h =
     let taken_step = step_ok town first_place line (λ place. verdict_along town place next others) end h in
     let found = version_ok town (limit_of town line) taken_step.stage taken_step.is in
-    judged_by town end line (joined (next ∷ others)) found.0 (limit_is town line found.0 found.1)
+    proof_of town end line (joined (next ∷ others)) found.0 (limit_is town line found.0 found.1)
     (subst (λ taken. Proves town found.0 (start town) taken end (joined (next ∷ others))) (zero-add (length line + 1))
     (lines_accepted town found.0 (start town) 2 (0 + (length line + 1)) next others end
     (subst (λ stage. verdict_along town (place_behind first_place line stage) next others ≡ Accepted end) found.2 taken_step.said)))
 
 -- ---- whole proofs
 
--- bytes that the checker accepts are a proof that is judged, each record and the end
-pub verdict-judged : (town : Town) (bytes : List ℕ) (end : End) → verdict town bytes ≡ Accepted end → IsJudgedProof town end bytes
-verdict-judged town bytes end h =
+-- bytes that the checker accepts are a proof
+pub accepted_is_proof : (town : Town) (end : End) (bytes : List ℕ) → verdict town bytes ≡ Accepted end → IsProof town end bytes
+accepted_is_proof town end bytes h =
     let lines = lines_of bytes in
     let first = first_accepted town lines.first lines.others end (sym (ap (over_lines (verdict_along town first_place)) lines.are) ∙ h) in
-    subst (IsJudgedProof town end) (ap joined (sym lines.are) ∙ join_with_byte-slice_split 10 bytes) first
+    subst (IsProof town end) (ap joined (sym lines.are) ∙ join_with_byte-slice_split 10 bytes) first
 
--- so they are a proof
-pub judged-proof : (town : Town) (end : End) (bytes : List ℕ) → IsJudgedProof town end bytes → IsProof town end bytes
-judged-proof town end bytes (records, judged, last, proved) = (records, proved)
-
--- and its end holds
-pub judged-holds : (town : Town) (end : End) (bytes : List ℕ) → IsJudgedProof town end bytes → EndHolds town end
-judged-holds town end bytes (records, judged, last, inl second) = proved_end town version_2 records end bytes second
-judged-holds town end bytes (records, judged, last, inr (small, first)) = proved_end town version_1 records end bytes first
+-- the end of a proof holds
+pub proof_holds : (town : Town) (end : End) (bytes : List ℕ) → IsProof town end bytes → EndHolds town end
+proof_holds town end bytes (records, inl second) = proved_end town version_2 records end bytes second
+proof_holds town end bytes (records, inr (small, first)) = proved_end town version_1 records end bytes first

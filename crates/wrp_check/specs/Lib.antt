@@ -1,9 +1,8 @@
 pub mod Streams
 pub mod Verdicts
-pub mod Accepted
-pub mod Pools
-pub mod Tables
-pub mod Sparse
+pub mod Gathered
+pub mod Values
+pub mod Leaks
 pub mod Marks
 pub mod Judging
 pub mod Passes

@@ -1,82 +1,170 @@
-//! What the checker keeps of the records so far, and its judgement of one more.
-ghost use Rattle.std.specs.Prelude.{◌≡◌, ◌≤◌, ◌^◌, ◌==◌, true, false, pos, length, IfOk};
+//! The judgement of a line behind what stands.
+ghost use Rattle.std.specs.Prelude.{◌≡◌, ◌≤◌, None, Ok, true, length, IfOk};
 ghost use Rattle.wrp_rules.specs.Proofs.{longest_line};
 ghost use Rattle.wrp_town.specs.declared.town.Town.{Town};
-ghost use Rattle.wrp_rules.specs.declared.record.Record.TheVariants.{Tour, Bound};
-ghost use Rattle.wrp_rules.specs.Nodes.{Standing, start, is_below};
+ghost use Rattle.wrp_rules.specs.declared.record.Record.TheVariants.{Tour};
+ghost use Rattle.wrp_rules.specs.Nodes.{Standing, start};
+ghost use Rattle.wrp_rules.specs.Lists.{agrees};
+ghost use Rattle.wrp_rules.specs.Rules.{is_labels};
 ghost use Rattle.wrp_rules.specs.Contents.{has_number_rules};
-ghost use Rattle.wrp_rules.specs.Rules.{int_eq};
+ghost use Rattle.wrp_proof.specs.Views.{IsLineOf, record_of};
 ghost use Rattle.wrp_proof.specs.JudgedLines.{judged_line, judged_end};
-ghost use Rattle.wrp_check.specs.Judging.{IsReady, Stands, record_or_rule, Judges, bound_or_rule, is_cheapest, agrees_at};
+ghost use Rattle.wrp_check.specs.Judging.{IsKept, IsReady, Stands, Judges, Tries, IsSound, IsIdle};
 
-use crate::bound::{BoundVerdict, judge_bound};
-use crate::pool::Pool;
+use crate::apart::take_apart;
+use crate::branch::{take_blind, take_labels, take_point, take_split};
+use crate::closing::{take_bound, take_empty};
+use crate::cuts::{take_conn, take_kc, take_odd, take_round};
+use crate::kept::{Kept, Past};
 use crate::tour::broken_tour;
+use crate::work::Work;
 use std::alloc::{AllocError, Global};
-use wrp_proof::{
-    End, LineFault, PairsOf, Rule, StepsOf, View, ViewFault, is_later, is_later_end, read_end, view,
-};
+use wrp_graph::Graph;
+use wrp_nodes::Nodes;
+use wrp_pool::Pool;
+use wrp_proof::{End, LineFault, Rule, StepsOf, View, ViewFault, read_end, view};
 use wrp_town::Town;
 
-/// The numbers that the checker keeps, with the tables that it works on.
+/// What the checker keeps of the records so far, with the tables that it works on.
 #[derive(Debug, Drop)]
-pub(crate) struct Judge {
-    /// The rows of the town.
-    pub(crate) pool: Pool,
-    /// For each arc its coefficient in the combined rows of a bound.
-    pub(crate) combined: Vec<i128>,
-    /// For each arc whether a tour uses it.
-    pub(crate) used: Vec<bool>,
-    /// The bound of the root.
-    pub(crate) bound: i128,
-    /// The cost of the cheapest tour.
-    pub(crate) upper: Option<u64>,
+pub(crate) struct Judge<'t> {
+    alloc: Global,
+    pub(crate) graph: Graph<'t>,
+    pub(crate) kept: Kept,
+    pub(crate) work: Work,
 }
 
-impl Judge {
+impl Kept {
     /// Before any record.
-    pub(crate) fn new(alloc: Global, town: &Town) -> Result<Judge, AllocError>
+    pub(crate) fn start(alloc: Global, town: &Town) -> Result<Kept, AllocError>
+        ensures { IfOk result (λ kept. IsKept town.now (start town.now) kept) }
+    {
+        Ok(Kept {
+            pool: Pool::new(alloc, town)?,
+            nodes: Nodes::new(alloc)?,
+            upper: None,
+            cuts: 0,
+            past: Past {
+                has_records: false,
+                is_labelled: false,
+                leads: None,
+            },
+        })
+    }
+
+    /// Whether an end agrees with what stands.
+    fn agrees_with(&self, end: End) -> bool
+        ensures { (town : Town) (s : Standing) → IsKept town s self.now
+            → result ≡ agrees s end }
+    {
+        match end {
+            End::Optimal { cost } => self.nodes.is_done(self.upper) && self.upper == Some(cost),
+            End::Infeasible => self.past.is_labelled,
+            End::Unfinished { low, high } => {
+                !self.nodes.is_done(self.upper)
+                    && self.upper == Some(high)
+                    && self.nodes.lower(self.upper) == Some(i128::from(low))
+            }
+        }
+    }
+}
+
+/// Whether a view is that of labels.
+fn has_labels(view: &View<'_>) -> bool
+    ensures { result ≡ is_labels (record_of view.now) }
+{
+    matches!(view, View::Labels { .. })
+}
+
+/// Takes a tour, or says which rule it breaks.
+fn take_tour(
+    town: &Town,
+    work: &mut Work,
+    kept: &mut Kept,
+    cost: u64,
+    steps: &StepsOf<'_>,
+) -> Option<Rule>
+    requires idle { IsIdle town.now work.old }
+    requires sound { IsSound town.now kept.old }
+    ensures idle { IsIdle town.now work.new }
+    ensures tries { Tries town.now (Tour cost steps.now) result kept.old kept.new }
+{
+    let broken = broken_tour(town, &mut work.used, kept.upper, cost, steps);
+    if broken.is_none() {
+        kept.upper = Some(cost);
+        kept.past = Past::plain();
+    }
+    broken
+}
+
+impl<'t> Judge<'t> {
+    /// Before any record.
+    pub(crate) fn new(alloc: Global, town: &'t Town) -> Result<Judge<'t>, AllocError>
         ensures { IfOk result (λ judge. Stands town.now (start town.now) judge) }
     {
-        let arcs = 2 * town.streets.len();
         Ok(Judge {
-            pool: Pool::new(alloc, town)?,
-            combined: vec![in alloc; 0i128; arcs]?,
-            used: vec![in alloc; false; arcs]?,
-            bound: 0,
-            upper: None,
+            alloc,
+            graph: Graph::new(alloc, town)?,
+            kept: Kept::start(alloc, town)?,
+            work: Work::new(alloc, town)?,
         })
     }
 
     /// Takes the record of a line, or says which rule it breaks.
-    #[tactic(auto, using(wrp_proof::proofs::SpelledLaws::spelled_viewed))]
-    pub(crate) fn take(&mut self, town: &Town, line: &[u8]) -> Option<Rule>
+    ///
+    /// # Errors
+    ///
+    /// Want of memory alone.
+    pub(crate) fn take(&mut self, town: &Town, line: &[u8]) -> Result<Option<Rule>, AllocError>
         requires ready { IsReady town.now self.old }
         requires short { length line.now ≤ longest_line }
-        ensures ready { IsReady town.now self.new }
-        ensures judges { (s : Standing) → Stands town.now s self.old
-            → Judges town.now s (judged_line town.now s line.now) result self.new }
+        ensures { IfOk result (λ broken. (s : Standing) → Stands town.now s self.old
+            → Judges town.now s (judged_line town.now s line.now) broken self.new) }
     {
-        if is_later(line) {
-            return Some(Rule::Later);
-        }
         match view(line) {
-            Ok(View::Tour { cost, steps }) => self.take_tour(town, cost, &steps),
-            Ok(View::Bound { node, den, mult }) => self.take_bound(town, node, den, &mult),
-            // Only later lines spell other records.
-            Ok(View::Conn { .. }) => unreachable!(),
-            Ok(View::Odd { .. }) => unreachable!(),
-            Ok(View::Round { .. }) => unreachable!(),
-            Ok(View::Kc { .. }) => unreachable!(),
-            Ok(View::Empty { .. }) => unreachable!(),
-            Ok(View::Apart { .. }) => unreachable!(),
-            Ok(View::Point { .. }) => unreachable!(),
-            Ok(View::Blind { .. }) => unreachable!(),
-            Ok(View::Split { .. }) => unreachable!(),
-            Ok(View::Labels { .. }) => unreachable!(),
-            Err(ViewFault::Form { .. }) => Some(Rule::Form),
-            Err(ViewFault::Number { .. }) => Some(Rule::Number),
+            Ok(view) => {
+                if self.kept.past.admits(has_labels(&view)) {
+                    self.take_view(town, &view)
+                } else {
+                    Ok(Some(Rule::Lonely))
+                }
+            }
+            Err(ViewFault::Form { .. }) => Ok(Some(Rule::Form)),
+            Err(ViewFault::Number { .. }) => Ok(Some(Rule::Number)),
             Err(ViewFault::Long) => unreachable!(),
+        }
+    }
+
+    /// Takes a record that may stand next, or says which rule of its kind it breaks.
+    fn take_view(&mut self, town: &Town, view: &View<'_>) -> Result<Option<Rule>, AllocError>
+        requires ready { IsReady town.now self.old }
+        requires numbers { has_number_rules (record_of view.now) ≡ true }
+        ensures graph { self.new.graph ≡ self.old.graph }
+        ensures idle { result ≡ Ok None → IsIdle town.now self.new.work }
+        ensures tries { IfOk result (λ broken.
+            Tries town.now (record_of view.now) broken self.old.kept self.new.kept) }
+    {
+        let alloc = self.alloc;
+        let graph = &self.graph;
+        let work = &mut self.work;
+        let kept = &mut self.kept;
+        match view {
+            View::Tour { cost, steps } => Ok(take_tour(town, work, kept, *cost, steps)),
+            View::Conn { r1, r2, set } => take_conn(alloc, graph, work, kept, *r1, *r2, set),
+            View::Odd { set } => take_odd(alloc, graph, work, kept, set),
+            View::Round { divisor, mult } => take_round(alloc, town, work, kept, *divisor, mult),
+            View::Kc { k, of } => take_kc(alloc, town, work, kept, *k, of),
+            View::Bound { node, den, mult } => take_bound(town, work, kept, *node, *den, mult),
+            View::Empty { node, mult } => take_empty(town, work, kept, *node, mult),
+            View::Apart { node, r1, r2, set } => {
+                take_apart(graph, work, kept, *node, *r1, *r2, set)
+            }
+            View::Point { node, den, numbers } => {
+                take_point(town, work, kept, *node, *den, numbers)
+            }
+            View::Blind { node } => Ok(take_blind(town, kept, *node)),
+            View::Split { node, arc, k } => take_split(town, work, kept, *node, *arc, *k),
+            View::Labels { labels, streets } => take_labels(town, work, kept, labels, streets),
         }
     }
 
@@ -86,12 +174,9 @@ impl Judge {
         ensures { (town : Town) (s : Standing) → Stands town s self.now
             → judged_end s line.now ≡ result }
     {
-        if is_later_end(line) {
-            return Err(Rule::Later);
-        }
         match read_end(line) {
             Ok(end) => {
-                if agrees_with(self.bound, self.upper, end) {
+                if self.kept.agrees_with(end) {
                     Ok(end)
                 } else {
                     Err(Rule::End)
@@ -100,103 +185,6 @@ impl Judge {
             Err(LineFault::Form { .. }) => Err(Rule::Form),
             Err(LineFault::Number { .. }) => Err(Rule::Number),
             Err(LineFault::Long | LineFault::Memory) => unreachable!(),
-        }
-    }
-
-    /// Takes a tour, or says which rule it breaks.
-    fn take_tour(&mut self, town: &Town, cost: u64, steps: &StepsOf<'_>) -> Option<Rule>
-        requires ready { IsReady town.now self.old }
-        ensures ready { IsReady town.now self.new }
-        ensures judges { (s : Standing) → Stands town.now s self.old
-            → has_number_rules (Tour cost steps.now) ≡ true
-            → Judges town.now s (record_or_rule town.now s (Tour cost steps.now)) result self.new }
-    {
-        let broken = broken_tour(town, &mut self.used, self.upper, cost, steps);
-        if broken.is_none() {
-            self.upper = Some(cost);
-        }
-        broken
-    }
-
-    /// Takes a bound, or says which rule it breaks.
-    fn take_bound(
-        &mut self,
-        town: &Town,
-        node: u64,
-        denominator: u64,
-        multipliers: &PairsOf<'_>,
-    ) -> Option<Rule>
-        requires ready { IsReady town.now self.old }
-        requires numbers { has_number_rules (Bound node denominator multipliers.now) ≡ true }
-        ensures ready { IsReady town.now self.new }
-        ensures judges { (s : Standing) → Stands town.now s self.old
-            → Judges town.now s
-            (record_or_rule town.now s (Bound node denominator multipliers.now)) result self.new }
-    {
-        if node != 0 {
-            return Some(Rule::Range);
-        }
-        let table = &mut self.combined;
-        let verdict = judge_bound(town, &self.pool, table, denominator, multipliers.again());
-        match better_bound(verdict, self.bound, self.upper) {
-            Ok(value) => {
-                self.bound = value;
-                None
-            }
-            Err(rule) => Some(rule),
-        }
-    }
-}
-
-/// The new bound of the root, or the first rule that it breaks, beside the number of the node.
-fn better_bound(verdict: BoundVerdict, bound: i128, upper: Option<u64>) -> Result<i128, Rule>
-    ensures { result ≡ bound_or_rule verdict bound upper }
-{
-    match verdict {
-        BoundVerdict::Missing => Err(Rule::Range),
-        _ if !is_open(bound, upper) => Err(Rule::Closed),
-        BoundVerdict::Negative => Err(Rule::Later),
-        BoundVerdict::Bound(value) if value <= bound => Err(Rule::Low),
-        BoundVerdict::Bound(value) => Ok(value),
-    }
-}
-
-/// Whether a bound is below the cost of the cheapest tour, or there is none.
-fn is_open(bound: i128, upper: Option<u64>) -> bool
-    ensures { result ≡ is_below bound upper }
-{
-    match upper {
-        Some(cost) => bound < i128::from(cost),
-        None => true,
-    }
-}
-
-/// Whether the cheapest tour has this cost.
-fn is_cheapest(upper: Option<u64>, cost: u64) -> bool
-    ensures { result ≡ is_cheapest upper cost }
-{
-    match upper {
-        Some(least) => least == cost,
-        None => false,
-    }
-}
-
-/// Whether the bound is this number.
-fn is_bound(bound: i128, low: u64) -> bool
-    ensures { result ≡ int_eq (pos low) bound }
-{
-    i128::from(low) <= bound && bound <= i128::from(low)
-}
-
-/// Whether an end agrees with the bound of the root and the cost of the cheapest tour.
-fn agrees_with(bound: i128, upper: Option<u64>, end: End) -> bool
-    ensures { result ≡ agrees_at bound upper end }
-{
-    match end {
-        End::Optimal { cost } => !is_open(bound, upper) && is_cheapest(upper, cost),
-        End::Infeasible => false,
-        End::Unfinished { low, high } => {
-            is_open(bound, upper) && is_cheapest(upper, high) && is_bound(bound, low)
         }
     }
 }

@@ -3,12 +3,17 @@
 //! It holds one line and its own numbers, never the whole proof.
 #![tactic(auto)]
 
-mod base;
-mod bound;
+mod apart;
+mod branch;
+mod closing;
+mod cuts;
+mod gather;
 mod judge;
+mod kept;
 mod lines;
 mod pass;
-mod pool;
 mod tour;
+mod value;
+mod work;
 
 pub use pass::{CheckFault, check, verdict_laws};

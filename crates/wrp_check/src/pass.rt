@@ -13,7 +13,6 @@ ghost use Rattle.wrp_check.specs.Streams.{ahead, Draws, HasDrawn, Peeks};
 ghost use Rattle.wrp_proof.specs.JudgedLines.{is_end as is_end_text};
 ghost use Rattle.wrp_check.specs.Verdicts.{Verdict, verdict, limit_of, first_place, Accepted, AnswerIs, FaultOn};
 ghost use Rattle.wrp_check.specs.Passes.{TakesLine, Unread, Behind, IsUnderWay, Begins, Steps, MovesOn, Reaches, Whole};
-ghost use Rattle.wrp_check.specs.Accepted.{IsJudgedProof};
 
 use crate::judge::Judge;
 use crate::lines::{Ending, Lines, LinesFault};
@@ -72,9 +71,9 @@ fn fault_of(fault: LinesFault) -> CheckFault
 
 /// Where the pass stands, behind the version line.
 #[derive(Debug, Drop)]
-struct Progress {
+struct Progress<'t> {
     lines: Lines,
-    judge: Judge,
+    judge: Judge<'t>,
     /// The bytes that a line may have.
     limit: u64,
     /// The number of the next line.
@@ -175,7 +174,7 @@ fn close<P: Source>(lines: &mut Lines, proof: &mut P, number: u64) -> Result<(),
     }
 }
 
-impl Progress {
+impl<'t> Progress<'t> {
     /// Judges the next line: takes one more record, or answers the end of the proof.
     fn step<P: Source>(&mut self, town: &Town, proof: &mut P) -> Result<Option<End>, CheckFault>
         requires { IsUnderWay town.now self.old }
@@ -203,14 +202,19 @@ impl Progress {
             };
         }
         match self.judge.take(town, self.lines.line()) {
-            Some(rule) => Err(CheckFault::Refused { line: number, rule }),
-            None => Ok(None),
+            Ok(Some(rule)) => Err(CheckFault::Refused { line: number, rule }),
+            Ok(None) => Ok(None),
+            Err(_) => Err(CheckFault::Memory),
         }
     }
 }
 
 /// Reads the version line, and stands behind it.
-fn begin<P: Source>(alloc: Global, town: &Town, proof: &mut P) -> Result<Progress, CheckFault>
+fn begin<'t, P: Source>(
+    alloc: Global,
+    town: &'t Town,
+    proof: &mut P,
+) -> Result<Progress<'t>, CheckFault>
     ensures under_way { IfOk result (λ pass. IsUnderWay town.now pass) }
     ensures reaches { IfOk result (λ pass.
         Reaches town.now (P.input proof.old) pass (P.input proof.new)) }
@@ -268,7 +272,7 @@ pub fn check<P: Source>(alloc: Global, town: &Town, proof: &mut P) -> Result<End
     ensures accepted { IfOk result (λ end. IfSome (P.input proof.old).left
         (λ bytes. IsProof town.now end bytes)) }
     ensures accepts { IfSome (P.input proof.old).left (λ bytes. (end : End)
-        → IsJudgedProof town.now end bytes → AnswerIs result (Accepted end)) }
+        → IsProof town.now end bytes → AnswerIs result (Accepted end)) }
     ensures end { OnOk result (Tells (P.input proof.new).left []) }
 
     // What was accepted is true, whoever wrote the proof.
@@ -281,10 +285,11 @@ pub fn check<P: Source>(alloc: Global, town: &Town, proof: &mut P) -> Result<End
     judge_proof(alloc, town, proof)
 }
 
-/// The verdict accepts exactly the proofs that are judged, each with its end, and that end is true.
+/// The verdict accepts exactly the proofs, each with its end, and that end is true. So no proof has
+/// two ends.
 pub fn verdict_laws()
     ensures accepts { (town : Town) (end : End) (bytes : List ℕ)
-        → IsJudgedProof town end bytes ↔ (verdict town bytes ≡ Accepted end) }
+        → IsProof town end bytes ↔ (verdict town bytes ≡ Accepted end) }
     ensures holds { (town : Town) (end : End) (bytes : List ℕ)
         → verdict town bytes ≡ Accepted end → EndHolds town end }
 {}

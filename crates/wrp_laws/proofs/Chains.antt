@@ -22,7 +22,8 @@ use Rattle.wrp_laws.specs.Meets.{MeetsRow}
 use Rattle.wrp_laws.proofs.Counts.{sum_by_counts}
 use Rattle.wrp_laws.specs.Sides.{goes_over}
 use Rattle.wrp_laws.proofs.Thinning.{count_cons}
-use Rattle.wrp_laws.proofs.Crossings.{outs, overs, overs_are_even, leaves_set, both_ways_same, tail_on_street, alike_on_demand, demands_driven, required_driven, member_from_positive}
+use Rattle.wrp_rules.proofs.TwoWays.{both_ways_same, tail_on_street}
+use Rattle.wrp_laws.proofs.Crossings.{outs, overs, overs_are_even, leaves_set, alike_on_demand, demands_driven, required_driven, member_from_positive}
 
 -- ---- sums over the first numbers
 

@@ -1,34 +1,16 @@
--- Each legal arc stands once among the legal arcs, so a sum over them by counts is a sum over the steps.
-use Rattle.std.proofs.Common.{◌≡◌, ℕ, zero, suc, ◌+◌, ◌*◌, true, cond, ◌==◌, ℤ, pos, ◌+ℤ◌, ◌*ℤ◌, List, [], ◌∷◌, ◌++◌, length, filter, count_by, ap, refl, sym, ◌∙◌, arith, inl, inr, ◌⊎◌}
-use Rattle.std.specs.List.{list_all, range_with_len}
+-- A sum over the legal arcs by counts is a sum over the steps.
+use Rattle.std.proofs.Common.{◌≡◌, ℕ, ◌+◌, true, cond, ◌==◌, ℤ, pos, ◌+ℤ◌, ◌*ℤ◌, List, [], ◌∷◌, ap, sym, ◌∙◌, arith, inl, inr, ◌⊎◌}
+use Rattle.std.specs.List.{list_all}
 use Rattle.std.proofs.lemmas.Bool.{cases_eq, eq-eqb, ne_eqb, and_parts}
 use Rattle.std.proofs.lemmas.Int.{ints}
-use Rattle.wrp_sums.specs.Sums.{sum_over, numbers_below}
+use Rattle.wrp_sums.specs.Sums.{sum_over}
 use Rattle.wrp_sums.proofs.SumsOver.{sum_over-+ℤ, sum_over-ext, sum_over-all_zero, sum_over_single}
-use Rattle.wrp_sums.proofs.FirstNumbers.{once_below}
 use Rattle.wrp_town.specs.declared.street.Step.{Step}
 use Rattle.wrp_town.specs.declared.town.Town.{Town}
 use Rattle.wrp_town.specs.Arcs.{is_legal, legal_arcs, arc_of}
 use Rattle.wrp_town.specs.Walks.{count_of}
-use Rattle.wrp_town.proofs.TownLaws.{legal_below}
 use Rattle.wrp_town.proofs.WalkLaws.{count_of-cons}
-
--- ---- each legal arc stands once
-
-range_more : (a n j : ℕ) → a + n ≡ j → range_with_len a (suc n) ≡ range_with_len a n ++ j ∷ []
-range_more a zero j e = ap (λ (x : ℕ). x ∷ []) (omega arith)
-range_more a (suc n) j e = ap (λ (xs : List ℕ). a ∷ xs) (range_more (a + 1) n j (omega arith))
-
-range_numbers : (n : ℕ) → range_with_len 0 n ≡ numbers_below n
-range_numbers zero = refl
-range_numbers (suc n) = range_more 0 n n (omega arith) ∙ ap (λ (xs : List ℕ). xs ++ n ∷ []) (range_numbers n)
-
-pub legal_once : (town : Town) (arc : ℕ) → is_legal town arc ≡ true → count_by (λ a. a == arc) (legal_arcs town) ≡ 1
-legal_once town arc legal =
-    ap (λ (xs : List ℕ). count_by (λ a. a == arc) (filter (is_legal town) xs)) (range_numbers (2 * length town.streets))
-    ∙ once_below (is_legal town) (2 * length town.streets) arc (legal_below town arc legal) legal
-
--- ---- sums by counts
+use Rattle.wrp_rules.proofs.LegalArcs.{legal_once}
 
 -- one step more adds its arc's term
 one_step_more : (f : ℕ → ℤ) (step : Step) (steps : List Step) (arc : ℕ) → f arc *ℤ pos (count_of (step ∷ steps) arc) ≡ cond (arc == arc_of step) (f arc) (pos 0) +ℤ f arc *ℤ pos (count_of steps arc)

@@ -1,8 +1,7 @@
 -- Closed walks and sets of junctions: a set is left as often as it is entered, so it is crossed an even number of times.
-use Rattle.std.proofs.Common.{◌≡◌, ℕ, zero, suc, ◌+◌, ◌*◌, ◌/◌, ◌%◌, ◌<◌, ◌≤◌, Bool, true, false, cond, ◌&&◌, ◌||◌, not, ◌==◌, List, [], ◌∷◌, length, count_by, Contains, Option, Some, None, pos, ◌≤ℤ◌, ap, refl, sym, ◌∙◌, subst, inl, inr, ◌⊎◌, arith, eq-eqb, slice_get}
-use Rattle.std.specs.Prelude.{if◌then◌else◌}
+use Rattle.std.proofs.Common.{◌≡◌, ℕ, zero, suc, ◌+◌, ◌*◌, ◌/◌, ◌%◌, ◌<◌, ◌≤◌, Bool, true, false, cond, ◌&&◌, ◌||◌, not, ◌==◌, List, [], ◌∷◌, length, count_by, Contains, Option, Some, None, pos, ◌≤ℤ◌, ap, refl, sym, ◌∙◌, subst, inl, inr, arith, slice_get}
 use Rattle.std.specs.Option.{option_map_or}
-use Rattle.std.proofs.lemmas.Bool.{and_parts, and_from, or_cases, eqb-true, eqb-false, cases_Bool, cases_eq, cases_lt, ne_eqb, false≢true, not-true, true≢false, false_from_ne_true}
+use Rattle.std.proofs.lemmas.Bool.{and_parts, and_from, or_cases, eqb-true, eqb-false, cases_Bool, cases_eq, cases_lt, false≢true, not-true, true≢false, false_from_ne_true}
 use Rattle.std.proofs.lemmas.List.Elements.{Contains-append_cases, Contains-append_left, Contains-append_right}
 use Rattle.std.proofs.lemmas.List.Sums.{sum_by-append, count_by-le-length}
 use Rattle.wrp_sums.specs.Sums.{sum_over}
@@ -21,6 +20,7 @@ use Rattle.wrp_town.proofs.Members.{inside_head, inside_tail, inside_cases, insi
 use Rattle.wrp_town.proofs.ServiceLaws.{member_from_has_arc, demand_arc_street, demand_arc_from, served_arc, step_from_counted}
 use Rattle.wrp_rules.specs.Rows.{one_if, conn_row, odd_row}
 use Rattle.wrp_rules.specs.Sets.{is_in, leaves, crosses, arc_at, crossing_demands, lies_in, lies_outside, is_parted}
+use Rattle.wrp_rules.proofs.TwoWays.{both_ways_same, alike_on_street, tail_on_street, over_turned}
 use Rattle.wrp_laws.specs.Meets.{MeetsRow}
 use Rattle.wrp_laws.proofs.Counts.{sum_by_counts}
 use Rattle.wrp_laws.specs.Sides.{goes_out, comes_in, goes_over}
@@ -155,71 +155,6 @@ leaves_set town set steps one two closed first second inside outside =
           let at_two = stays town set from.0 steps from.0 from.1 over t.0 t.1 in
           absurd (true≢false (sym inside ∙ ap (λ a. set (tail_of town a)) (sym s.2) ∙ at_one ∙ sym at_two ∙ ap (λ a. set (tail_of town a)) t.2 ∙ outside))
           )
-    ]
-
--- ---- the two arcs of a street
-
-even_cases : (arc : ℕ) → (arc ≡ 2 * (arc / 2)) ⊎ (arc ≡ 2 * (arc / 2) + 1)
-even_cases arc = elim (cases_eq (arc % 2) 0) [ inl even ↦ inl (omega arith) | inr odd ↦ inr (omega arith) ]
-
-abbrev first_end : Town → ℕ → ℕ
-first_end town street = option_map_or (λ (s : Street). s.from) (slice_get town.streets street) 0
-
-abbrev second_end : Town → ℕ → ℕ
-second_end town street = option_map_or (λ (s : Street). s.to) (slice_get town.streets street) 0
-
-abbrev tail_by : Town → Bool → ℕ → ℕ
-tail_by town even street = option_map_or (λ (s : Street). if even then s.from else s.to) (slice_get town.streets street) 0
-
-abbrev head_by : Town → Bool → ℕ → ℕ
-head_by town even street = option_map_or (λ (s : Street). if even then s.to else s.from) (slice_get town.streets street) 0
-
-even_is : (s : ℕ) → ((2 * s) % 2 == 0) ≡ true
-even_is s = eq-eqb _ _ (omega arith)
-
-odd_is : (s : ℕ) → ((2 * s + 1) % 2 == 0) ≡ false
-odd_is s = ne_eqb _ _ (λ e. absurd (omega arith))
-
-half_even : (s : ℕ) → (2 * s) / 2 ≡ s
-half_even s = omega arith
-
-half_odd : (s : ℕ) → (2 * s + 1) / 2 ≡ s
-half_odd s = omega arith
-
-tail_forward : (town : Town) (s : ℕ) → tail_of town (2 * s) ≡ first_end town s
-tail_forward town s = ap (λ b. tail_by town b ((2 * s) / 2)) (even_is s) ∙ ap (tail_by town true) (half_even s)
-
-head_forward : (town : Town) (s : ℕ) → head_of town (2 * s) ≡ second_end town s
-head_forward town s = ap (λ b. head_by town b ((2 * s) / 2)) (even_is s) ∙ ap (head_by town true) (half_even s)
-
-tail_backward : (town : Town) (s : ℕ) → tail_of town (2 * s + 1) ≡ second_end town s
-tail_backward town s = ap (λ b. tail_by town b ((2 * s + 1) / 2)) (odd_is s) ∙ ap (tail_by town false) (half_odd s)
-
-head_backward : (town : Town) (s : ℕ) → head_of town (2 * s + 1) ≡ first_end town s
-head_backward town s = ap (λ b. head_by town b ((2 * s + 1) / 2)) (odd_is s) ∙ ap (head_by town false) (half_odd s)
-
--- a test of the ends of an arc that takes them in either order is the same for both arcs of a street
-pub both_ways_same : (town : Town) (p : ℕ → ℕ → Bool) → ((u v : ℕ) → p u v ≡ p v u) → (s : ℕ) → p (tail_of town (2 * s)) (head_of town (2 * s)) ≡ p (tail_of town (2 * s + 1)) (head_of town (2 * s + 1))
-both_ways_same town p turned s =
-    ap (λ u. p u (head_of town (2 * s))) (tail_forward town s)
-    ∙ ap (p (first_end town s)) (head_forward town s)
-    ∙ turned (first_end town s) (second_end town s)
-    ∙ ap (λ u. p u (first_end town s)) (sym (tail_backward town s))
-    ∙ ap (p (tail_of town (2 * s + 1))) (sym (head_backward town s))
-
--- a test that both arcs of each street pass alike passes arcs of one street alike
-pub alike_on_street : (q : ℕ → Bool) → ((s : ℕ) → q (2 * s) ≡ q (2 * s + 1)) → (a b : ℕ) → a / 2 ≡ b / 2 → q a ≡ q b
-alike_on_street q both a b same = at_even a ∙ ap (λ s. q (2 * s)) same ∙ sym (at_even b)
-  where
-    at_even : (arc : ℕ) → q arc ≡ q (2 * (arc / 2))
-    at_even arc = elim (even_cases arc) [ inl e ↦ ap q e | inr e ↦ ap q e ∙ sym (both (arc / 2)) ]
-
--- what holds of both ends of a street's forward arc holds of the tail of each of its arcs
-pub tail_on_street : (P : ℕ → Type 0) (town : Town) (arc : ℕ) → P (tail_of town (2 * (arc / 2))) → P (head_of town (2 * (arc / 2))) → P (tail_of town arc)
-tail_on_street P town arc tail head =
-    elim (even_cases arc) [
-      | inl e ↦ subst (λ a. P (tail_of town a)) (sym e) tail
-      | inr e ↦ subst (λ a. P (tail_of town a)) (sym e) (subst P (head_forward town (arc / 2) ∙ sym (tail_backward town (arc / 2))) head)
     ]
 
 -- ---- demands
@@ -382,12 +317,6 @@ meets_conn town r1 r2 set steps parted tour =
     meets_by_count town (leaves town set) 1 steps (tour_closed town steps tour) (leaves_parted town r1 r2 set steps parted tour)
 
 -- ---- odd sets
-
-over_turned : (x y : Bool) → ((x && not y) || (not x && y)) ≡ ((y && not x) || (not y && x))
-over_turned true true = refl
-over_turned true false = refl
-over_turned false true = refl
-over_turned false false = refl
 
 pub over_both_ways : (town : Town) (set : ℕ → Bool) (s : ℕ) → goes_over town set (2 * s) ≡ goes_over town set (2 * s + 1)
 over_both_ways town set s = both_ways_same town (λ u v. (set u && not (set v)) || (not (set u) && set v)) (λ u v. over_turned (set u) (set v)) s

@@ -19,7 +19,7 @@ use Rattle.wrp_rules.specs.Nodes.{Standing}
 use Rattle.wrp_rules.specs.Rules.{broken_rule, all_below, keeps_label, breaks_label}
 use Rattle.wrp_laws.proofs.Rules.{rules_kept, all_rules}
 use Rattle.wrp_laws.proofs.Crossings.{demand_there}
-use Rattle.wrp_laws.proofs.Lower.{inside_legal}
+use Rattle.wrp_rules.proofs.LegalArcs.{inside_legal}
 
 -- a number of each junction that never rises along a legal arc
 module _ (town : Town) (label : ℕ → ℕ) (falls : (arc : ℕ) → is_legal town arc ≡ true → label (head_of town arc) ≤ label (tail_of town arc)) where

@@ -1,18 +1,16 @@
 -- The least bound of a valid list is at most the cost of every tour.
-use Rattle.std.proofs.Common.{◌≡◌, ℕ, zero, suc, ◌+◌, ◌*◌, ◌^◌, ◌<◌, ◌≤◌, min, Bool, true, false, cond, ◌&&◌, ◌||◌, not, ◌==◌, List, [], ◌∷◌, ◌++◌, length, get_or, filter, Option, None, Some, is_none, IfSome, ℤ, pos, ◌≤ℤ◌, ◌<ℤ◌, int_lt, ap, refl, sym, ◌∙◌, subst, inl, inr, ◌⊎◌, ⊎_elim, arith, Contains}
+use Rattle.std.proofs.Common.{◌≡◌, ℕ, zero, suc, ◌+◌, ◌^◌, ◌<◌, ◌≤◌, min, Bool, true, false, cond, ◌&&◌, ◌||◌, not, ◌==◌, List, [], ◌∷◌, ◌++◌, length, get_or, filter, Option, None, Some, is_none, IfSome, ℤ, pos, ◌≤ℤ◌, ◌<ℤ◌, int_lt, ap, refl, sym, ◌∙◌, subst, inl, inr, ◌⊎◌, ⊎_elim, arith}
 use Rattle.std.specs.Option.{option_map, option_map_or, option_or}
 use Rattle.std.specs.Int.{int_min}
-use Rattle.std.specs.List.{list_all, range_with_len}
+use Rattle.std.specs.List.{list_all}
 use Rattle.std.proofs.lemmas.Bool.{and_parts, and_from, or_cases, eqb-true, ltb-true, cases_eq, cases_lt, true≢false, not-true}
-use Rattle.std.proofs.lemmas.List.FromFn.{get_or-range_with_len, length-range_with_len}
 use Rattle.wrp_sums.proofs.Integers.{linear, tests}
-use Rattle.wrp_sums.proofs.FirstNumbers.{passes_of_inside, inside_filter}
+use Rattle.wrp_sums.proofs.FirstNumbers.{passes_of_inside}
 use Rattle.wrp_sums.proofs.WeakDuality.{no_solution}
 use Rattle.wrp_town.specs.declared.street.Step.{Step}
 use Rattle.wrp_town.specs.declared.town.Town.{Town}
 use Rattle.wrp_town.specs.Arcs.{is_legal, legal_arcs, arcs, demands, arc_of}
 use Rattle.wrp_town.specs.Walks.{is_tour, walk_cost, count_of, HasNoTour}
-use Rattle.wrp_town.proofs.TownLaws.{legal_below}
 use Rattle.wrp_town.proofs.WalkLaws.{tour_closed, tour_legal}
 use Rattle.wrp_town.proofs.Members.{member_passes}
 use Rattle.wrp_town.proofs.ServiceLaws.{counted_from_step}
@@ -24,6 +22,7 @@ use Rattle.wrp_rules.specs.Nodes.{Node, root, Standing, start, node_at, with_bou
 use Rattle.wrp_rules.specs.Ranges.{is_from_one, is_count, are_multipliers}
 use Rattle.wrp_rules.specs.Rules.{broken_rule, node_is_there, rows_are_there}
 use Rattle.wrp_rules.specs.Lists.{is_valid}
+use Rattle.wrp_rules.proofs.LegalArcs.{inside_legal}
 use Rattle.wrp_laws.proofs.BaseRows.{meets_all, meets_at}
 use Rattle.wrp_laws.proofs.DualBounds.{IsWithin, bound_within, solves}
 use Rattle.wrp_laws.proofs.Rules.{rules_kept, all_rules, HasTour}
@@ -43,13 +42,6 @@ within_from_inside town node steps inside = record {
   at_least = λ arc there. inside.at_least arc (passes_of_inside (is_legal town) (arcs town) arc there);
   at_most = λ arc there. inside.at_most arc (passes_of_inside (is_legal town) (arcs town) arc there);
 }
-
-inside_range : (n i : ℕ) → i < n → Contains (range_with_len 0 n) i
-inside_range n i below = (i, omega (arith, length-range_with_len 0 n), get_or-range_with_len 0 n i i below ∙ omega arith)
-
-pub inside_legal : (town : Town) (arc : ℕ) → is_legal town arc ≡ true → Contains (legal_arcs town) arc
-inside_legal town arc legal =
-    inside_filter (is_legal town) (arcs town) arc (inside_range (2 * length town.streets) arc (legal_below town arc legal)) legal
 
 -- the multipliers of an emptied node leave no tour in it
 emptied : (town : Town) (rows : List Row) (node : Node) (mult : List (ℕ × ℕ)) (steps : List Step) → AreMet town rows → pos 0 <ℤ empty_value town rows node mult → is_tour town steps ≡ true → InBox town node steps → ⊥

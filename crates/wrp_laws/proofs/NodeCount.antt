@@ -13,7 +13,7 @@ use Rattle.wrp_rules.specs.declared.record.Record.TheVariants.{Split}
 use Rattle.wrp_rules.specs.Nodes.{Node, root, Standing, start, node_at, at_most, at_least, after, standing}
 use Rattle.wrp_rules.specs.Rules.{broken_rule}
 use Rattle.wrp_rules.specs.Lists.{is_valid}
-use Rattle.wrp_laws.proofs.Counts.{legal_once}
+use Rattle.wrp_rules.proofs.LegalArcs.{legal_once}
 use Rattle.wrp_laws.specs.Boxes.{is_split, IsPartition}
 use Rattle.wrp_laws.proofs.Thinning.{count_cons}
 use Rattle.wrp_laws.proofs.Chains.{sum_more}

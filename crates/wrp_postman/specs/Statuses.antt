@@ -40,7 +40,6 @@ code_of Memory = 20
 -- a rule's name
 abbrev pub rule_name : Rule → List ℕ
 rule_name rules.Start = codes "Start"
-rule_name rules.Later = codes "Later"
 rule_name rules.Form = codes "Form"
 rule_name rules.Number = codes "Number"
 rule_name rules.Lonely = codes "Lonely"

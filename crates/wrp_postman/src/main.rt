@@ -1,6 +1,8 @@
 //! The program: checks proofs of tours over street tables.
 #![tactic(auto)]
 
+#[cfg(test)]
+mod cases;
 mod command;
 mod input;
 mod run;

@@ -2,6 +2,7 @@
 // read or a write ends.
 ghost use Rattle.wrp_out.specs.Faulty.{input_of};
 
+use crate::cases::{CASES, HEADER, SLOPE, TRIANGLE};
 use crate::run::postman;
 use crate::status::Status;
 use std::alloc::{AllocError, Global};
@@ -25,102 +26,7 @@ const USAGE: &str = "usage: solve STREETS PROOF LOG BUDGET | resume STREETS PROO
     | expand STREETS STOPS | visit STREETS STOPS PROOF LOG BUDGET | unfold STREETS BANS \
     | turns STREETS BANS PROOF LOG BUDGET\n";
 
-const HEADER: &str = "street,from,to,forward,backward,need\n";
-
-const TRIANGLE: &str = "ab,A,B,3,3,yes\nbc,B,C,4,4,yes\nca,C,A,5,5,yes\n";
-
-const SLOPE: &str = "e,A,B,2,3,yes\n";
-
 const PROOF: &str = "postman-proof 2\nt 12 0+ 1+ 2+\nb 0 1 3:3 4:4 5:5\nend optimal 12\n";
-
-/// The rows of a table, a proof from its version on, and what the check of both prints.
-type Case = (&'static str, &'static str, &'static str);
-
-const CASES: [Case; 28] = [
-    // Proofs that are accepted.
-    (
-        TRIANGLE,
-        "2\nt 12 0+ 1+ 2+\nb 0 1 3:3 4:4 5:5\nend optimal 12\n",
-        "accepted optimal 12",
-    ),
-    ("", "1\nt 0\nend optimal 0\n", "accepted optimal 0"),
-    (
-        "a,A,B,1,-,no\nb,B,C,1,-,yes\nc,C,A,1,-,no\nd,B,A,5,-,yes\n",
-        "1\nt 9 0+ 1+ 2+ 0+ 3+\nb 0 1 0:1 2:2 3:3 4:6\nend optimal 9\n",
-        "accepted optimal 9",
-    ),
-    (
-        "l,A,A,7,-,yes\n",
-        "2\nt 7 0+\nb 0 1 1:7\nend optimal 7\n",
-        "accepted optimal 7",
-    ),
-    (
-        "e,A,B,2,3,both\n",
-        "2\nt 5 0+ 0-\nb 0 1 2:2 3:3\nend optimal 5\n",
-        "accepted optimal 5",
-    ),
-    (
-        "e,A,B,2,3,forward\n",
-        "2\nt 5 0+ 0-\nb 0 1 1:3 2:5\nend optimal 5\n",
-        "accepted optimal 5",
-    ),
-    (
-        "ab,A,B,1,9,backward\nbc,B,C,1,1,no\nca,C,A,1,1,no\n",
-        "2\nt 10 0- 0+\nb 0 1 0:1 3:10\nend optimal 10\n",
-        "accepted optimal 10",
-    ),
-    // One proof for each rule.
-    (
-        "e,A,B,1000001,3,yes\n",
-        "1\nt 1000004 0+ 0-\n",
-        "refused 1 Start",
-    ),
-    (SLOPE, "1\no 0\n", "refused 2 Later"),
-    (SLOPE, "1\nend infeasible\n", "refused 2 Later"),
-    (SLOPE, "1\nt 5 0+ 0-\nb 0 1 2:3\n", "refused 3 Later"),
-    (SLOPE, "1\nx\n", "refused 2 Form"),
-    (
-        TRIANGLE,
-        "2\nt 12 0+ 1+ 2+\nb 0 1 3:03 4:4 5:5\nend optimal 12\n",
-        "refused 3 Number",
-    ),
-    (SLOPE, "1\nt 5 1+\n", "refused 2 Range"),
-    (SLOPE, "1\nb 9 1 0:1\n", "refused 2 Range"),
-    (SLOPE, "1\nt 5 0+\n", "refused 2 Walk"),
-    (SLOPE, "1\nt 0\n", "refused 2 Serve"),
-    (SLOPE, "1\nt 6 0+ 0-\n", "refused 2 Cost"),
-    (SLOPE, "1\nt 5 0+ 0-\nt 5 0- 0+\n", "refused 3 Dear"),
-    (
-        TRIANGLE,
-        "2\nt 12 0+ 1+ 2+\nb 0 1 3:3 4:4 5:5\nb 0 1 3:3\n",
-        "refused 4 Closed",
-    ),
-    (
-        SLOPE,
-        "1\nt 5 0+ 0-\nb 0 1 2:2\nb 0 2 2:3\n",
-        "refused 4 Low",
-    ),
-    (SLOPE, "1\nend optimal 5\n", "refused 2 End"),
-    (
-        SLOPE,
-        "1\nt 5 0+ 0-\nb 0 1 2:2\nend optimal 5\n",
-        "refused 4 End",
-    ),
-    (
-        TRIANGLE,
-        "2\nt 12 0+ 1+ 2+\nb 0 1 3:3 4:4 5:5\nend optimal 12\nx",
-        "refused 5 After",
-    ),
-    // Tables with a fault.
-    ("a,A,B,1,1\n", "2\n", "table Fields row 1"),
-    (
-        "a,A,B,1,1,no\na,,B,1,1,no\n",
-        "2\n",
-        "table Name row 2 field 2",
-    ),
-    ("a,A,B,1000000001,1,no\n", "2\n", "table Cost row 1 field 4"),
-    ("a,A,B,1000000000,1,maybe\n", "2\n", "table Need row 1"),
-];
 
 /// Gives few bytes at each read: so many at the first, and so many more each time.
 #[derive(Debug, Drop)]
@@ -283,6 +189,19 @@ fn takes_tables_and_lines_of_their_limits(rt: HostRuntime) -> Result<(), Fail> {
     ] {
         assert_eq!(rt; line.as_slice(), text.as_bytes());
     }
+    Ok(())
+}
+
+#[test]
+fn takes_as_many_cuts_as_a_proof_may_have(rt: HostRuntime) -> Result<(), Fail> {
+    let alloc = rt.alloc();
+    let table = format!(in alloc; "{HEADER}{SLOPE}")?;
+    let mut proof = Vec::from_slice(alloc, b"postman-proof 1\nt 5 0+ 0-\n")?;
+    for _ in 0..20_001 {
+        proof.extend_from_slice(b"o 0\n")?;
+    }
+    let answer = answer_of(alloc, table.as_bytes(), &proof, ROOM)?;
+    assert_eq!(rt; answer.line.as_slice(), b"refused 20003 Cuts\n".as_slice());
     Ok(())
 }
 

@@ -22,7 +22,6 @@ fn rule_name(rule: Rule) -> &'static str
 {
     match rule {
         Rule::Start => "Start",
-        Rule::Later => "Later",
         Rule::Form => "Form",
         Rule::Number => "Number",
         Rule::Lonely => "Lonely",

@@ -1,6 +1,5 @@
 pub mod KindLaws
 pub mod LineLaws
 pub mod FaultLaws
-pub mod SpelledLaws
 pub mod Narrow
 pub mod WorkedSpelling

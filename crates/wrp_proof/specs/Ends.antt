@@ -1,7 +1,5 @@
 -- The lines of ends, and their faults.
-use Rattle.std.specs.Prelude.{codes, ◌≡◌, ℕ, Bool, true, ◌||◌, nat_eq, List}
-use Rattle.std.specs.List.{starts_with}
-use Rattle.std.specs.Str.{bytes_eq}
+use Rattle.std.specs.Prelude.{◌≡◌, ℕ, true, List}
 use Rattle.wrp_rules.specs.declared.record.End.{End}
 use Rattle.wrp_proof.specs.declared.fault.LineFault.{LineFault}
 use Rattle.wrp_proof.specs.declared.fault.LineFault.TheVariants as faults
@@ -29,9 +27,3 @@ IsEndFault line (faults.Form at) = IsFaultIn end_kinds line (view_faults.Form at
 IsEndFault line (faults.Number at) = IsFaultIn end_kinds line (view_faults.Number at)
 IsEndFault line faults.Long = IsFaultIn end_kinds line view_faults.Long
 IsEndFault line faults.Memory = ⊥
-
--- the line is in the shape of an end that the checker doesn't judge yet
-abbrev pub is_later_end : List ℕ → Bool
-is_later_end line =
-    bytes_eq line (codes "end infeasible")
-    || starts_with nat_eq line (codes "end unfinished ")

@@ -1,6 +1,5 @@
--- What the checker says of one line behind what stands: its record or its end, or the rule that it
--- breaks. A line that spells neither breaks Form or Number, and one of a kind that isn't judged yet
--- Later.
+-- What a checker says of one line behind what stands: its record or its end, or the rule that it
+-- breaks. A line that spells neither breaks Form or Number.
 use Rattle.std.specs.Prelude.{ℕ, Bool, if◌then◌else◌, nat_eq, codes, List, Option, None, Some, Result, Ok, Err}
 use Rattle.std.specs.List.{starts_with}
 use Rattle.wrp_town.specs.declared.town.Town.{Town}
@@ -9,12 +8,10 @@ use Rattle.wrp_rules.specs.declared.record.End.{End}
 use Rattle.wrp_rules.specs.declared.rule.Rule.{Rule}
 use Rattle.wrp_rules.specs.declared.rule.Rule.TheVariants as rules
 use Rattle.wrp_rules.specs.Nodes.{Standing}
+use Rattle.wrp_rules.specs.Rules.{broken_rule}
 use Rattle.wrp_rules.specs.Lists.{agrees}
-use Rattle.wrp_rules.specs.Judged.{judged_rule}
 use Rattle.wrp_grammar.specs.Shapes.{has_shape, has_end_shape}
-use Rattle.wrp_proof.specs.Views.{is_later}
 use Rattle.wrp_grammar.specs.Spelling.{spelled, spelled_end}
-use Rattle.wrp_proof.specs.Ends.{is_later_end}
 
 -- a value, unless a rule is broken
 abbrev pub unless : {X : Type 0} → Option Rule → X → Result X Rule
@@ -24,12 +21,11 @@ unless (Some rule) value = Err rule
 -- the record that a line spells, unless it breaks a rule; the fault of a line that spells none
 abbrev pub judged_record : Town → Standing → Rule → Option Record → Result Record Rule
 judged_record town s fault None = Err fault
-judged_record town s fault (Some item) = unless (judged_rule town s item) item
+judged_record town s fault (Some item) = unless (broken_rule town s item) item
 
 abbrev pub judged_line : Town → Standing → List ℕ → Result Record Rule
 judged_line town s line =
-    if is_later line then Err rules.Later
-    else judged_record town s (if has_shape line then rules.Number else rules.Form) (spelled line)
+    judged_record town s (if has_shape line then rules.Number else rules.Form) (spelled line)
 
 -- the end that a line spells, unless it disagrees with what stands
 abbrev pub agreeing_end : Standing → Rule → Option End → Result End Rule
@@ -38,8 +34,7 @@ agreeing_end s fault (Some end) = if agrees s end then Ok end else Err rules.End
 
 abbrev pub judged_end : Standing → List ℕ → Result End Rule
 judged_end s line =
-    if is_later_end line then Err rules.Later
-    else agreeing_end s (if has_end_shape line then rules.Number else rules.Form) (spelled_end line)
+    agreeing_end s (if has_end_shape line then rules.Number else rules.Form) (spelled_end line)
 
 -- a line that begins with `end` is read as an end line
 abbrev pub is_end : List ℕ → Bool

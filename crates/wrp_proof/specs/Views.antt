@@ -1,7 +1,6 @@
 -- What a view of a line stands for, and which lines have one.
-use Rattle.std.specs.Prelude.{◌≡◌, ⊤, ℕ, ◌^◌, ◌≤◌, ◌<◌, Bool, true, false, ◌&&◌, nat_lt, ◌==◌, List, [], ◌∷◌, length, codes, None}
-use Rattle.std.specs.List.{list_any, list_all}
-use Rattle.std.specs.Str.{bytes_eq}
+use Rattle.std.specs.Prelude.{◌≡◌, ⊤, ℕ, ◌^◌, ◌≤◌, ◌<◌, Bool, true, false, nat_lt, List, length, None}
+use Rattle.std.specs.List.{list_all}
 use Rattle.wrp_rules.specs.Proofs.{longest_line}
 use Rattle.wrp_rules.specs.declared.layout.Kind.{Kind}
 use Rattle.wrp_rules.specs.declared.record.Record.{Record}
@@ -15,7 +14,6 @@ use Rattle.wrp_proof.specs.declared.fault.LineFault.TheVariants as line_faults
 use Rattle.wrp_rules.specs.Layouts.{record_kinds}
 use Rattle.wrp_rules.specs.Lines.{line_of}
 use Rattle.wrp_rules.specs.Contents.{has_number_rules}
-use Rattle.wrp_grammar.specs.Parts.{is_space}
 use Rattle.wrp_grammar.specs.Shapes.{is_of_kinds}
 use Rattle.wrp_grammar.specs.Fronts.{IsLongestFront}
 use Rattle.wrp_grammar.specs.Numbers.{IsFirstBadNumber}
@@ -45,19 +43,6 @@ has_narrow_multipliers (Round divisor mult) = are_narrow mult
 has_narrow_multipliers (Bound node den mult) = are_narrow mult
 has_narrow_multipliers (Empty node mult) = are_narrow mult
 has_narrow_multipliers item = true
-
--- the letter is that of a record which is neither a tour nor a bound
-abbrev pub is_later_letter : ℕ → Bool
-is_later_letter letter = list_any (λ byte. letter == byte) (codes "corkeapzsn")
-
--- behind its letter a record's line goes on with a space; the letter `o` alone is a whole line
-abbrev pub goes_on : ℕ → List ℕ → Bool
-goes_on letter [] = bytes_eq (letter ∷ []) (codes "o")
-goes_on letter (byte ∷ rest) = is_space byte
-
-abbrev pub is_later : List ℕ → Bool
-is_later [] = false
-is_later (letter ∷ rest) = is_later_letter letter && goes_on letter rest
 
 -- the line spells a record that keeps the number rules
 pub record IsLineOf (item : Record) (line : List ℕ) : Type 0 where

@@ -6,7 +6,7 @@ ghost use Rattle.wrp_rules.specs.Contents.{content_of_end, keeps_number_rules};
 ghost use Rattle.wrp_grammar.specs.Reading.{content_held};
 ghost use Rattle.wrp_grammar.specs.Spelling.{content_in, spelled_end};
 ghost use Rattle.wrp_proof.specs.Kinds.{is_end_kind};
-ghost use Rattle.wrp_proof.specs.Ends.{is_later_end as is_later_line, line_fault, IsEndFault};
+ghost use Rattle.wrp_proof.specs.Ends.{line_fault, IsEndFault};
 
 use crate::fault::LineFault;
 use crate::kinds::{END_KINDS, end_kind, fault_in};
@@ -45,13 +45,6 @@ fn as_line_fault(fault: ViewFault) -> LineFault
         ViewFault::Number { at } => LineFault::Number { at },
         ViewFault::Long => LineFault::Long,
     }
-}
-
-/// Whether the line is in the shape of an end that the checker doesn't judge yet.
-pub fn is_later_end(line: &[u8]) -> bool
-    ensures { result ≡ is_later_line line.now }
-{
-    line == b"end infeasible".as_slice() || line.starts_with(b"end unfinished ")
 }
 
 /// The end that a line spells.

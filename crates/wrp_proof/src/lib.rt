@@ -1,4 +1,4 @@
-//! Proofs of tours and bounds as texts: the lines of records and ends, read without copying and
+//! Proofs as texts: the lines of records and ends, read without copying and
 //! written. Nothing takes memory but `read_record`, `to_record` and what writes.
 #![tactic(auto)]
 
@@ -13,11 +13,11 @@ mod records;
 mod tests;
 mod views;
 
-pub use end::{is_later_end, read_end};
+pub use end::read_end;
 pub use fault::LineFault;
 pub use laws::{end_laws, line_laws};
 pub use owned::read_record;
-pub use reading::{is_later, view};
+pub use reading::view;
 pub use records::to_record;
 pub use views::{View, ViewFault};
 pub use wrp_grammar::{NumbersOf, PairsOf, StepsOf};

@@ -6,7 +6,7 @@ ghost use Rattle.wrp_rules.specs.Contents.{NoItems, Steps, Numbers, Pairs, TwoLi
 ghost use Rattle.wrp_grammar.specs.Reading.{content_held, content_with};
 ghost use Rattle.wrp_grammar.specs.Spelling.{content_in, spelled};
 ghost use Rattle.wrp_proof.specs.Kinds.{is_record_kind};
-ghost use Rattle.wrp_proof.specs.Views.{record_of, is_later_letter, goes_on as goes_on_behind, is_later as is_later_line, IsFaultOf};
+ghost use Rattle.wrp_proof.specs.Views.{record_of, IsFaultOf};
 
 use crate::kinds::{RECORD_KINDS, fault_in, record_kind};
 use crate::views::{View, ViewFault};
@@ -46,34 +46,6 @@ pub fn view(line: &[u8]) -> Result<View<'_>, ViewFault>
     match view_of_line(line) {
         Some(view) => Ok(view),
         None => Err(fault_in(&RECORD_KINDS, line)),
-    }
-}
-
-/// Whether the line has the letter of a record that is neither a tour nor a bound, and goes on with
-/// a space; or is the letter `o` alone.
-pub fn is_later(line: &[u8]) -> bool
-    ensures { result ≡ is_later_line line.now }
-{
-    match line.split_first() {
-        Some((letter, rest)) => is_later_kind(*letter) && goes_on(*letter, rest),
-        None => false,
-    }
-}
-
-/// Whether the letter is that of a record that is neither a tour nor a bound.
-fn is_later_kind(letter: u8) -> bool
-    ensures { result ≡ is_later_letter letter }
-{
-    b"corkeapzsn".iter().any(|byte| letter == *byte)
-}
-
-/// Whether a line goes on behind its letter as a record's line does.
-fn goes_on(letter: u8, rest: &[u8]) -> bool
-    ensures { result ≡ goes_on_behind letter rest.now }
-{
-    match rest.first() {
-        Some(byte) => *byte == b' ',
-        None => letter == b'o',
     }
 }
 

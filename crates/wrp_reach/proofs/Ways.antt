@@ -13,7 +13,7 @@ use Rattle.wrp_town.specs.Walks.{leads}
 use Rattle.wrp_town.proofs.TownLaws.{arc_of-step_along}
 use Rattle.wrp_town.proofs.WalkLaws.{leads-join, leads-push}
 use Rattle.wrp_graph.specs.Stars.{out_of}
-use Rattle.wrp_laws.proofs.Lower.{inside_legal}
+use Rattle.wrp_rules.proofs.LegalArcs.{inside_legal}
 use Rattle.wrp_reach.specs.declared.search.Mark.{Mark}
 use Rattle.wrp_reach.specs.declared.search.Mark.TheVariants.{New, OnPath, Done}
 use Rattle.wrp_reach.specs.Reaching.{Reaches}

@@ -9,7 +9,8 @@ use Rattle.wrp_town.specs.declared.town.Town.{Town}
 use Rattle.wrp_town.specs.Streets.{demands_at, demands_from}
 use Rattle.wrp_town.proofs.DemandLaws.{demands_from-drop_read, demands_from-drop_end}
 use Rattle.wrp_rules.specs.Sets.{arc_at}
-use Rattle.wrp_laws.proofs.Crossings.{over_both_ways, both_ways_same}
+use Rattle.wrp_rules.proofs.TwoWays.{both_ways_same}
+use Rattle.wrp_laws.proofs.Crossings.{over_both_ways}
 use Rattle.wrp_rows.specs.declared.pattern.Pattern.{Pattern}
 use Rattle.wrp_rows.specs.declared.pattern.Pattern.TheVariants.{Leaving, Crossing, Chain, Sums}
 use Rattle.wrp_rows.specs.Marks.{is_marked}

@@ -1,0 +1,2 @@
+pub mod LegalArcs
+pub mod TwoWays

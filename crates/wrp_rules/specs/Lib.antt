@@ -8,4 +8,3 @@ pub mod Rules
 pub mod Lists
 pub mod Lines
 pub mod Proofs
-pub mod Judged

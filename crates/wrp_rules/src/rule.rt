@@ -3,8 +3,6 @@
 pub enum Rule {
     /// The first line is no version line, or one of version 1 though the town isn't small.
     Start,
-    /// The line is of a kind that the checker doesn't judge yet.
-    Later,
     /// The line isn't in the shape of its kind.
     Form,
     /// A number is written otherwise than it has to be, or out of its range or order.

@@ -9,16 +9,15 @@ ghost use Rattle.wrp_rules.specs.declared.record.Record.{Record};
 ghost use Rattle.wrp_rules.specs.declared.record.End.TheVariants.{Optimal};
 ghost use Rattle.wrp_rules.specs.Nodes.{standing};
 ghost use Rattle.wrp_rules.specs.Lists.{is_valid, agrees};
-ghost use Rattle.wrp_rules.specs.Judged.{are_judged};
 
 #[cfg(test)]
 mod row_tests;
 #[cfg(test)]
 mod tests;
 
-/// The laws of judged records speak of lists that there are: this function does nothing, and its
-/// clause is one.
-pub fn some_list_is_judged()
+/// The laws of valid lists speak of lists that there are: this function does nothing, and its clause
+/// is one.
+pub fn some_list_is_valid()
     ensures { (town : Town) × (records : List Record) × (is_valid town records ≡ true)
-        × (are_judged town records ≡ true) × (agrees (standing town records) (Optimal 5) ≡ true) }
+        × (agrees (standing town records) (Optimal 5) ≡ true) }
 {}

@@ -1,9 +1,9 @@
-use Rattle.wrp_check.proofs.Soundness.{judged-holds}
-use Rattle.wrp_check.proofs.Passing.{accepts_judged, judged_accepts}
+use Rattle.wrp_check.proofs.Soundness.{accepted_is_proof, proof_holds}
+use Rattle.wrp_check.proofs.Completeness.{proof_is_accepted}
 use Rattle.wrp_check.proofs.pass.verdict_laws.Goals as goal
 
 pub returns-clause-accepts : goal.returns-clause-accepts
-returns-clause-accepts c = λ town end bytes. (accepts_judged town end bytes, judged_accepts town end bytes)
+returns-clause-accepts c = λ town end bytes. (proof_is_accepted town end bytes, accepted_is_proof town end bytes)
 
 pub returns-clause-holds : goal.returns-clause-holds
-returns-clause-holds c = λ town end bytes said. judged-holds town end bytes (judged_accepts town end bytes said)
+returns-clause-holds c = λ town end bytes said. proof_holds town end bytes (accepted_is_proof town end bytes said)

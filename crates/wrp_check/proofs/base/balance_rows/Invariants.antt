@@ -1,6 +1,0 @@
-use Rattle.wrp_check.specs.Sparse.{AreBalancesBelow}
-use Rattle.wrp_check.proofs.base.balance_rows.Given as goal
-
--- the arcs so far are in the rows of their ends
-abbrev pub invariant-loop-arc : goal.invariant-loop-arc
-invariant-loop-arc l = AreBalancesBelow l.town l.arc l.rows.items

@@ -1,0 +1,12 @@
+pub mod Listed
+pub mod Borders
+pub mod Balances
+pub mod Services
+pub mod Tables
+pub mod Ranges
+pub mod Holders
+pub mod Distances
+pub mod Roundings
+pub mod Demands
+pub mod Tallying
+pub mod Weights
