@@ -15,7 +15,7 @@ const CHAIN: &str = "a,P,S,1,1,yes\nb,P,S,1,1,yes\nl,Q,Q,0,-,yes\nm,R,R,0,-,yes\
 /// The rows of a table, a proof from its version on, and what the check of both prints.
 pub(crate) type Case = (&'static str, &'static str, &'static str);
 
-pub(crate) const CASES: [Case; 50] = [
+pub(crate) const CASES: [Case; 57] = [
     // Proofs that are accepted.
     (
         TRIANGLE,
@@ -157,6 +157,21 @@ pub(crate) const CASES: [Case; 50] = [
         PATH,
         "1\nt 24 0+ 1+ 2+ 2- 1- 0-\nz 0\ns 0 2 0\na 2 0 2 0 1\n",
         "refused 5 Leak",
+    ),
+    (
+        SLOPE,
+        "1\nt 5 0+ 0-\nz 0\ns 0 0 0\ne 1 0:1\n",
+        "refused 5 Low",
+    ),
+    (SLOPE, "1\nt 5 0+ 0-\np 0 2 0:5 1:5\n", "refused 3 Box"),
+    (SLOPE, "1\nt 5 0+ 0-\np 0 2 0:2 1:1\n", "refused 3 Balance"),
+    (SLOPE, "1\nt 5 0+ 0-\np 0 4 0:1 1:1\n", "refused 3 Service"),
+    ("e,A,B,2,-,yes\n", "1\nn 0 1 / 0 0\n", "refused 2 Rise"),
+    ("e,A,B,2,-,yes\n", "1\nn 0 0 / 0\n", "refused 2 Label"),
+    (
+        SLOPE,
+        "1\nt 5 0+ 0-\nend unfinished 0 5\n",
+        "accepted unfinished 0 5",
     ),
     (
         "e,A,B,2,-,yes\n",
