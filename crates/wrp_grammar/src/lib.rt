@@ -17,4 +17,4 @@ pub use faults::{form_place, number_place};
 pub use laws::{place_laws, word_laws};
 pub use numbers::NumbersOf;
 pub use parts::{PairsOf, StepsOf};
-pub use text::goes_on_with_space;
+pub use text::{goes_on_with_space, read_count};

@@ -8,7 +8,7 @@ use Rattle.std.proofs.lemmas.List.{get_or-set_same, get_or-set_other, get_or-rep
 use Rattle.wrp_town.specs.declared.town.Town.{Town}
 use Rattle.wrp_town.specs.Arcs.{is_legal, tail_of, head_of, legal_arcs, is_required, arcs}
 use Rattle.wrp_town.proofs.TownLaws.{few_junctions, few_streets}
-use Rattle.std.proofs.lemmas.List.Elements.{All-contains, filter_passes}
+use Rattle.std.proofs.lemmas.List.Elements.{All-contains, All-from_get_or, filter_passes}
 use Rattle.wrp_town.proofs.Members.{all_from_members}
 use Rattle.wrp_rules.specs.declared.record.Record.{Record}
 use Rattle.wrp_rules.specs.declared.record.Record.TheVariants.{Labels}
@@ -17,6 +17,8 @@ use Rattle.wrp_rules.specs.Nodes.{start}
 use Rattle.wrp_rules.specs.Ranges.{is_index}
 use Rattle.wrp_rules.specs.Contents.{has_number_rules}
 use Rattle.wrp_rules.specs.Rules.{all_below, falls_along, breaks_label, broken_rule, first_broken, streets_are_there}
+use Rattle.wrp_writer.specs.Limits.{is_writable}
+use Rattle.wrp_writer.proofs.ShortLines.{labels_writable}
 use Rattle.wrp_laws.proofs.Labels.{labels_exclude}
 use Rattle.wrp_reach.specs.Components.{AreComponents}
 use Rattle.wrp_reach.specs.Answers.{IsSplit}
@@ -95,9 +97,23 @@ module _ (town : Town) (count : ℕ) (labels : List ℕ) (are : AreComponents to
       none_broken (has_number_rules (Labels labels streets)) ((length labels == length town.junctions) && nat_lt 0 (length streets) && all_below (length streets) labels && streets_are_there town streets)
       (list_all (falls_along town labels) (legal_arcs town)) (list_all (λ label. breaks_label town labels label (slice_index streets label)) labels) number_kept range_kept rise_kept label_kept
 
+  few_labels : length labels ≤ 4000
+  few_labels = omega (arith, are.each, few_junctions town)
+
+  few_streets_named : length streets ≤ 4000
+  few_streets_named = omega (arith, long, are.few, few_junctions town)
+
+  short : is_writable (Labels labels streets) ≡ true
+  short =
+      labels_writable labels streets
+      (All-from_get_or (λ n. n < 10 ^ 4) labels 0 (λ j within. omega (arith, label_below j within, are.few, few_junctions town)))
+      (All-from_get_or (λ n. n < 10 ^ 4) streets 0 (λ k within. omega (arith, each_there k (omega (arith, long)), few_streets town)))
+      few_labels few_streets_named
+
   pub split_by : (item : Record) → item ≡ Labels labels streets → IsSplit town item
   split_by item is = subst (IsSplit town) (sym is) (record {
     labels = refl;
+    writable = short;
     valid = and_from _ _ sound refl;
     no_tour = labels_exclude town (start town) labels streets sound;
   })

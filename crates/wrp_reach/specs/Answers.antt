@@ -8,6 +8,7 @@ use Rattle.wrp_town.specs.Walks.{is_tour, HasNoTour}
 use Rattle.wrp_rules.specs.declared.record.Record.{Record}
 use Rattle.wrp_rules.specs.Rules.{is_labels}
 use Rattle.wrp_rules.specs.Lists.{is_valid}
+use Rattle.wrp_writer.specs.Limits.{is_writable}
 use Rattle.wrp_reach.specs.declared.reach.Reach.{Reach}
 use Rattle.wrp_reach.specs.declared.reach.Reach.TheVariants.{Joined, Split}
 use Rattle.wrp_reach.specs.Reaching.{IsComponent, is_held}
@@ -21,9 +22,10 @@ pub record IsJoined (town : Town) (part : List ℕ) : Type 0 where
   pub component : 0 < length (demands town) → IsComponent town part
   pub none : length (demands town) ≡ 0 → part ≡ []
 
--- no tour exists, and the record is a valid list by itself that shows it
+-- no tour exists, and the record is a valid list by itself that shows it and may be written
 pub record IsSplit (town : Town) (item : Record) : Type 0 where
   pub labels : is_labels item ≡ true
+  pub writable : is_writable item ≡ true
   pub valid : is_valid town (item ∷ []) ≡ true
   pub no_tour : HasNoTour town
 

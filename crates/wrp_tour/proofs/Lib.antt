@@ -1,3 +1,4 @@
 pub mod Pieces
 pub mod Uses
+pub mod LeanTours
 pub mod Rounds

@@ -13,6 +13,10 @@ pub record IsLeanTour (town : Town) (steps : List Step) : Type 0 where
   pub tour : is_tour town steps ≡ true
   pub few : UsesFew town steps
 
+-- the most steps of such a tour: each of two arcs of 4,000 streets, once for each of 4,000 demands
+abbrev pub most_steps : ℕ
+most_steps = 32000000
+
 -- some steps are a tour
 abbrev pub HasTour : Town → Type 0
 HasTour town = (steps : List Step) × (is_tour town steps ≡ true)

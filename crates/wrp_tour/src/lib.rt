@@ -4,6 +4,7 @@
 //! tour. Else a plain tour stands in its place.
 #![tactic(auto)]
 
+mod laws;
 mod lean;
 mod moves;
 mod order;
@@ -14,4 +15,5 @@ mod thinning;
 mod tours;
 mod ways;
 
+pub use laws::lean_tours_are_short;
 pub use tours::{first_tour, improve};

@@ -3,6 +3,7 @@
 #![tactic(auto)]
 
 mod content;
+mod laws;
 mod lengths;
 mod limits;
 mod part;
@@ -10,6 +11,7 @@ mod parts;
 mod whole;
 mod writing;
 
+pub use laws::line_laws;
 pub use limits::writable;
 pub use whole::proof_text;
 pub use writing::{write_end, write_record};
