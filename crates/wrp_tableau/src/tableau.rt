@@ -153,6 +153,14 @@ impl Tableau {
         }
     }
 
+    /// The number of rows.
+    pub fn rows(&self) -> u32
+        ensures count { result ≡ length self.now.rows }
+        ensures sound { IsSound (system self.now) }
+    {
+        self.rows.len() as u32
+    }
+
     /// Lends the entries of a row that aren't 0, each with its variable, ascending.
     pub fn row(&self, r: u32) -> &[(u32, i128)]
         requires { r < length self.now.rows }
@@ -251,6 +259,7 @@ mod tests {
     fn a_pivot_takes_out_an_entry(rt: HostRuntime) -> Result<(), Fail> {
         let alloc = rt.alloc();
         let mut tableau = tableau(alloc, line(alloc, 1, 0)?, line(alloc, 1, 2)?)?;
+        assert!(rt; tableau.rows() == 2);
         assert!(rt; tableau.entry(0, 0) == 1);
         assert!(rt; tableau.basic(0) == 2);
         assert!(rt; tableau.pivot(0, 0).is_ok());

@@ -1,0 +1,13 @@
+//! The relaxation of a part of the search, solved exactly in whole numbers.
+#![tactic(auto)]
+
+mod lines;
+mod lp;
+mod reading;
+mod relaxation;
+#[cfg(test)]
+mod tests;
+mod wholes;
+
+pub use lp::Lp;
+pub use relaxation::relax;
