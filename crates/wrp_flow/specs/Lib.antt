@@ -1,0 +1,5 @@
+pub mod Flows
+pub mod Sides
+pub mod Searches
+pub mod Pushes
+pub mod Cuts

@@ -1,0 +1,5 @@
+pub mod Points
+pub mod Cuts
+pub mod Crossing
+pub mod Merging
+pub mod Found

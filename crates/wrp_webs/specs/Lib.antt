@@ -1,0 +1,4 @@
+pub mod Webs
+pub mod Nets
+pub mod Searching
+pub mod TownWebs
