@@ -45,24 +45,24 @@ cut_below (AtLeast k) range most below = below
 cut_below (AtMost k) range most below = omega arith
 
 -- at the arc that is cut
-cut_lo_here : (cut : Cut) (arc : ℕ) (parent : Node) (range : UseRange) (own whole : ℕ) → parent.lo arc ≤ own → own ≡ (cut_by cut arc parent).lo arc → max range.lo own ≡ whole → max (cut_range cut range).lo (parent.lo arc) ≡ whole
+pub cut_lo_here : (cut : Cut) (arc : ℕ) (parent : Node) (range : UseRange) (own whole : ℕ) → parent.lo arc ≤ own → own ≡ (cut_by cut arc parent).lo arc → max range.lo own ≡ whole → max (cut_range cut range).lo (parent.lo arc) ≡ whole
 cut_lo_here (AtLeast k) arc parent range own whole rises is sum =
     let here : own ≡ k = is ∙ ap (λ (t : Bool). cond t k (parent.lo arc)) (eq-eqb arc arc refl) in
     omega arith
 cut_lo_here (AtMost k) arc parent range own whole rises is sum = omega arith
 
-cut_hi_here : (cut : Cut) (arc : ℕ) (parent : Node) (range : UseRange) (own whole : ℕ) → own ≤ parent.hi arc → own ≡ (cut_by cut arc parent).hi arc → min range.hi own ≡ whole → min (cut_range cut range).hi (parent.hi arc) ≡ whole
+pub cut_hi_here : (cut : Cut) (arc : ℕ) (parent : Node) (range : UseRange) (own whole : ℕ) → own ≤ parent.hi arc → own ≡ (cut_by cut arc parent).hi arc → min range.hi own ≡ whole → min (cut_range cut range).hi (parent.hi arc) ≡ whole
 cut_hi_here (AtLeast k) arc parent range own whole falls is sum = omega arith
 cut_hi_here (AtMost k) arc parent range own whole falls is sum =
     let here : own ≡ k = is ∙ ap (λ (t : Bool). cond t k (parent.hi arc)) (eq-eqb arc arc refl) in
     omega arith
 
 -- at other arcs the parent has what the node has
-cut_lo_elsewhere : (cut : Cut) (arc other : ℕ) (parent : Node) → (other ≡ arc → ⊥) → (cut_by cut arc parent).lo other ≡ parent.lo other
+pub cut_lo_elsewhere : (cut : Cut) (arc other : ℕ) (parent : Node) → (other ≡ arc → ⊥) → (cut_by cut arc parent).lo other ≡ parent.lo other
 cut_lo_elsewhere (AtLeast k) arc other parent differs = ap (λ (t : Bool). cond t k (parent.lo other)) (ne_eqb other arc differs)
 cut_lo_elsewhere (AtMost k) arc other parent differs = refl
 
-cut_hi_elsewhere : (cut : Cut) (arc other : ℕ) (parent : Node) → (other ≡ arc → ⊥) → (cut_by cut arc parent).hi other ≡ parent.hi other
+pub cut_hi_elsewhere : (cut : Cut) (arc other : ℕ) (parent : Node) → (other ≡ arc → ⊥) → (cut_by cut arc parent).hi other ≡ parent.hi other
 cut_hi_elsewhere (AtLeast k) arc other parent differs = refl
 cut_hi_elsewhere (AtMost k) arc other parent differs = ap (λ (t : Bool). cond t k (parent.hi other)) (ne_eqb other arc differs)
 

@@ -1,7 +1,7 @@
 -- One more node, cut out of the box of another; and both halves of a split.
-use Rattle.std.proofs.Common.{◌≡◌, ℕ, ◌+◌, ◌*◌, ◌<◌, ◌≤◌, Bool, ◌==◌, cond, true, false, ◌⊎◌, inl, inr, List, [], ◌∷◌, ◌++◌, length, ap, refl, sym, ◌∙◌, subst, arith, length-append, append_assoc}
+use Rattle.std.proofs.Common.{◌≡◌, ℕ, ◌+◌, ◌*◌, ◌<◌, ◌≤◌, Bool, ◌==◌, cond, true, false, ◌⊎◌, inl, inr, List, [], ◌∷◌, ◌++◌, length, take, ap, refl, sym, ◌∙◌, subst, arith, length-append, append_assoc}
 use Rattle.std.proofs.lemmas.Bool.{and_parts, eqb-true, leb-true, ltb-true, cases_lt}
-use Rattle.std.proofs.lemmas.List.{get_or_append_left}
+use Rattle.std.proofs.lemmas.List.{get_or_append_left, take_at}
 use Rattle.wrp_town.specs.declared.town.Town.{Town}
 use Rattle.wrp_town.specs.Arcs.{is_legal}
 use Rattle.wrp_town.proofs.TownLaws.{legal_below}
@@ -9,7 +9,7 @@ use Rattle.wrp_rules.specs.Nodes.{Node, root, closed, changed, at_most, at_least
 use Rattle.wrp_rules.specs.Rules.{parts_range}
 use Rattle.wrp_nodes.specs.declared.kept.KeptNode.{KeptNode}
 use Rattle.wrp_nodes.specs.declared.kept.Cut.TheVariants.{AtLeast, AtMost}
-use Rattle.wrp_nodes.specs.Kept.{node_in, kept_root, kept_at, HaveSameBox, IsWithin, IsSound, AreLinked, Keeps, IsCutOut, HasNodes, Becomes, Splits, split_nodes, child_of}
+use Rattle.wrp_nodes.specs.Kept.{node_in, kept_root, kept_at, HaveSameBox, IsWithin, IsSound, AreLinked, Keeps, IsCutOut, HasNodes, Becomes, Splits, GainsChildren, children, child_of}
 use Rattle.wrp_nodes.proofs.NodeLists.{changed-append, get_or_next}
 use Rattle.wrp_nodes.proofs.Keeping.{zip_at, zip_length, zip_push}
 
@@ -165,15 +165,20 @@ module _ (kept : List KeptNode) (node arc k : ℕ) (there : node < length kept) 
         (subst (λ (n : Node). IsCutOut town second n two) (sym same_parent) (record { arc = legal; box = record { lo = λ a is. refl; hi = λ a is. refl }; within = second_within town parent arc k low high sound }))
         (second_sound town parent arc k low high sound)
 
-    split_is : changed closed node ((nodes ++ one ∷ []) ++ two ∷ []) ≡ split_nodes town node arc k nodes
-    split_is =
-        changed-append closed node (nodes ++ one ∷ []) (two ∷ []) (omega (arith, length-append nodes (one ∷ []), zip_length kept nodes has.keeps))
-        ∙ ap (λ (xs : List Node). xs ++ two ∷ []) (changed-append closed node nodes (one ∷ []) (omega (arith, zip_length kept nodes has.keeps)))
-        ∙ append_assoc (changed closed node nodes) (one ∷ []) (two ∷ [])
-
-  pub splits : (new : List KeptNode) → Becomes both new (changed closed node) → Splits kept new node arc k
-  splits new closes = record {
-    count = omega (arith, closes.count, length-append kept (first ∷ []), length-append (kept ++ first ∷ []) (second ∷ []));
-    linked = λ arcs inside linked. closes.linked arcs (both_links arcs inside linked);
-    nodes = λ town nodes has legal parts. subst (HasNodes town new) (split_is town nodes has legal parts) (closes.nodes town ((nodes ++ at_most arc k (node_in town nodes node) ∷ []) ++ at_least arc (k + 1) (node_in town nodes node) ∷ []) (has_both town nodes has legal parts));
+  pub gains : GainsChildren kept both node arc k
+  gains = record {
+    count = omega (arith, length-append kept (first ∷ []), length-append (kept ++ first ∷ []) (second ∷ []));
+    front = ap (take (length kept)) (append_assoc kept (first ∷ []) (second ∷ [])) ∙ take_at kept (first ∷ second ∷ []) (length kept) refl;
+    linked = both_links;
+    nodes = λ town nodes has legal parts. subst (HasNodes town both) (append_assoc nodes (at_most arc k (node_in town nodes node) ∷ []) (at_least arc (k + 1) (node_in town nodes node) ∷ [])) (has_both town nodes has legal parts);
   }
+
+-- with two nodes more, a node is closed
+pub splits : (kept both new : List KeptNode) (node arc k : ℕ) → node < length kept → GainsChildren kept both node arc k → Becomes both new (changed closed node) → Splits kept new node arc k
+splits kept both new node arc k there gains closes = record {
+  count = closes.count ∙ gains.count;
+  linked = λ arcs inside linked. closes.linked arcs (gains.linked arcs inside linked);
+  nodes = λ town nodes has legal parts.
+      subst (HasNodes town new) (changed-append closed node nodes (children town node arc k nodes) (omega (arith, zip_length kept nodes has.keeps)))
+      (closes.nodes town (nodes ++ children town node arc k nodes) (gains.nodes town nodes has legal parts));
+}

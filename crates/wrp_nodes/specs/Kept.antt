@@ -1,5 +1,5 @@
 -- How the nodes are kept, and what the kept nodes stand for.
-use Rattle.std.specs.Prelude.{◌≡◌, ℕ, ◌+◌, ◌*◌, ◌<◌, ◌≤◌, min, max, Bool, true, false, not, ◌&&◌, pos, List, [], ◌∷◌, ◌++◌, length, slice_index_or, Option}
+use Rattle.std.specs.Prelude.{◌≡◌, ℕ, ◌+◌, ◌*◌, ◌<◌, ◌≤◌, min, max, Bool, true, false, not, ◌&&◌, pos, List, [], ◌∷◌, ◌++◌, length, take, slice_index_or, Option}
 use Rattle.std.specs.List.{AllZip}
 use Rattle.wrp_town.specs.declared.town.Town.{Town}
 use Rattle.wrp_town.specs.Arcs.{is_legal, demands}
@@ -101,11 +101,25 @@ pub record Becomes (old new : List KeptNode) (change : List Node → List Node) 
   pub nodes : (town : Town) (nodes : List Node) → HasNodes town old nodes
       → HasNodes town new (change nodes)
 
+-- the two nodes that a split makes
+abbrev pub children : Town → ℕ → ℕ → ℕ → List Node → List Node
+children town node arc k nodes =
+    at_most arc k (node_in town nodes node) ∷ at_least arc (k + 1) (node_in town nodes node) ∷ []
+
 -- a node closed, and two more: at most k uses of the arc, and at least k + 1
 abbrev pub split_nodes : Town → ℕ → ℕ → ℕ → List Node → List Node
 split_nodes town node arc k nodes =
-    changed closed node nodes
-    ++ at_most arc k (node_in town nodes node) ∷ at_least arc (k + 1) (node_in town nodes node) ∷ []
+    changed closed node nodes ++ children town node arc k nodes
+
+-- two nodes more behind those of before, and those that they stand for follow so, where the arc is
+-- legal and k parts its range
+pub record GainsChildren (old new : List KeptNode) (node arc k : ℕ) : Type 0 where
+  pub count : length new ≡ length old + 2
+  pub front : take (length old) new ≡ old
+  pub linked : (arcs : ℕ) → arc < arcs → AreLinked arcs old → AreLinked arcs new
+  pub nodes : (town : Town) (nodes : List Node) → HasNodes town old nodes
+      → is_legal town arc ≡ true → parts_range (node_in town nodes node) arc k ≡ true
+      → HasNodes town new (nodes ++ children town node arc k nodes)
 
 -- two nodes more, and those that they stand for are split so, where the arc is legal and k parts its
 -- range

@@ -1,12 +1,12 @@
 //! The nodes that stand.
-ghost use Rattle.std.specs.Prelude.{◌≡◌, ℕ, ◌+◌, ◌^◌, ◌<◌, List, [], ◌∷◌, ◌++◌, length, IfOk, OnOk, OnErr};
+ghost use Rattle.std.specs.Prelude.{◌≡◌, ℕ, ◌+◌, ◌^◌, ◌<◌, List, [], ◌∷◌, ◌++◌, take, length, IfOk, OnOk, OnErr};
 ghost use Rattle.std.specs.Int.{int_min};
 ghost use Rattle.std.specs.Option.{option_map_or};
 ghost use Rattle.std.specs.List.{AllZip, filter, list_any};
 ghost use Rattle.wrp_town.specs.declared.town.Town.{Town};
 ghost use Rattle.wrp_rules.specs.Nodes.{Node, Standing, with_bound, closed, changed, is_open, least_bound, lower};
 ghost use Rattle.wrp_rules.specs.Lists.{is_done};
-ghost use Rattle.wrp_nodes.specs.Kept.{kept_at, child_of, is_open_kept, Keeps, HasNodes, node_in, IsRootAlone, Becomes, Splits};
+ghost use Rattle.wrp_nodes.specs.Kept.{kept_at, child_of, is_open_kept, Keeps, HasNodes, node_in, IsRootAlone, Becomes, Splits, GainsChildren};
 
 use crate::kept::{Cut, KeptNode};
 use std::alloc::{AllocError, Global};
@@ -114,6 +114,24 @@ impl Nodes {
         ensures ok { OnOk result (Splits self.old self.new node arc k) }
         ensures err { OnErr result (self.new ≡ self.old) }
     {
+        self.push_children(node, arc, k)?;
+        self.close(node);
+        Ok(())
+    }
+
+    /// Adds the two nodes that a split of a node makes, and leaves the node itself as it is. After
+    /// an error the nodes are as before.
+    ///
+    /// # Errors
+    ///
+    /// Want of memory alone.
+    pub fn push_children(&mut self, node: u64, arc: u32, k: u32) -> Result<(), AllocError>
+        requires there { node < length self.old }
+        requires arc { arc < 2 ^ 16 }
+        requires uses { k + 1 < 2 ^ 16 }
+        ensures ok { OnOk result (GainsChildren self.old self.new node arc k) }
+        ensures err { OnErr result (self.new ≡ self.old) }
+    {
         let arc = arc as u16;
         let least = k as u16 + 1;
         self.push_child(node, arc, Cut::AtMost(k as u16))?;
@@ -121,8 +139,14 @@ impl Nodes {
             self.nodes.pop();
             return Err(fault);
         }
-        self.close(node);
         Ok(())
+    }
+
+    /// Drops the nodes behind the first `count`.
+    pub fn truncate(&mut self, count: u64)
+        ensures { self.new ≡ take count self.old }
+    {
+        self.nodes.truncate(count as usize);
     }
 
     /// Adds a node, cut out of the box of another.

@@ -1,18 +1,6 @@
-use Rattle.std.proofs.Common.{◌≡◌, ◌+◌, List, [], ◌∷◌, ◌++◌, ap, subst, ◌∙◌}
-use Rattle.wrp_rules.specs.Nodes.{changed, closed}
-use Rattle.wrp_nodes.specs.declared.kept.KeptNode.{KeptNode}
-use Rattle.wrp_nodes.specs.declared.kept.Cut.TheVariants.{AtLeast, AtMost}
-use Rattle.wrp_nodes.specs.Kept.{child_of, Becomes}
 use Rattle.wrp_nodes.proofs.Splitting.{splits}
 use Rattle.wrp_nodes.proofs.nodes.Nodes.split.Goals as goal
 
 pub returns-clause-ok : goal.returns-clause-ok
 returns-clause-ok c =
-    let old = c.args.self.now in
-    let node = c.args.node in
-    let arc = c.args.arc in
-    let k = c.args.k in
-    let one : c.push_child.new.self ≡ old ++ child_of old node arc (AtMost k) ∷ [] = c.in_ok-push_child.ensures.ok in
-    let two : c.push_child-2.new.self ≡ c.push_child.new.self ++ child_of c.push_child.new.self node arc (AtLeast (k + 1)) ∷ [] = c.in_default.ensures.ok in
-    let both = two ∙ ap (λ (xs : List KeptNode). xs ++ child_of xs node arc (AtLeast (k + 1)) ∷ []) one in
-    splits old node arc k c.requires.there c.close.new.self (subst (λ (xs : List KeptNode). Becomes xs c.close.new.self (changed closed node)) both c.close.ensures)
+    splits c.args.self.now c.push_children.new.self c.close.new.self c.args.node c.args.arc c.args.k c.requires.there c.in_ok-push_children.ensures.ok c.close.ensures

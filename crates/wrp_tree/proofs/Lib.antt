@@ -1,0 +1,11 @@
+pub mod Places
+pub mod Sums
+pub mod Indexing
+pub mod Wholes
+pub mod KindRules
+pub mod Boxing
+pub mod Keeping
+pub mod Judging
+pub mod Made
+pub mod Shutting
+pub mod Growing

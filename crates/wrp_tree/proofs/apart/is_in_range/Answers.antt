@@ -1,0 +1,13 @@
+use Rattle.std.proofs.Common.{◌≡◌, Bool, ◌&&◌, true, false, [], ◌∷◌, ap, sym, ◌∙◌}
+use Rattle.wrp_rules.specs.Rules.{node_is_there, streets_are_there, junctions_are_there}
+use Rattle.wrp_tree.proofs.apart.is_in_range.Goals as goal
+
+pub returns-then-has_node : goal.returns-then-has_node
+returns-then-has_node c = λ s is.
+    let there : node_is_there s c.args.node ≡ true = sym (c.has_node.ensures c.args.town.now s is) ∙ c.if-has_node.true in
+    c.has_streets_and_set.ensures ∙ ap (λ (t : Bool). t && streets_are_there c.args.town.now (c.args.r1 ∷ c.args.r2 ∷ []) && junctions_are_there c.args.town.now c.args.set.now) (sym there)
+
+pub returns-else-has_node : goal.returns-else-has_node
+returns-else-has_node c = λ s is.
+    let gone : node_is_there s c.args.node ≡ false = sym (c.has_node.ensures c.args.town.now s is) ∙ c.if-has_node.false in
+    c.if-has_node.false ∙ ap (λ (t : Bool). t && streets_are_there c.args.town.now (c.args.r1 ∷ c.args.r2 ∷ []) && junctions_are_there c.args.town.now c.args.set.now) (sym gone)
