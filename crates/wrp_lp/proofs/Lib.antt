@@ -13,3 +13,4 @@ pub mod Denominators
 pub mod Readings
 pub mod Making
 pub mod Endings
+pub mod Stands

@@ -1,6 +1,7 @@
 //! The relaxation of a part of the search, solved exactly in whole numbers.
 #![tactic(auto)]
 
+mod laws;
 mod lines;
 mod lp;
 mod reading;
@@ -9,5 +10,6 @@ mod relaxation;
 mod tests;
 mod wholes;
 
+pub use laws::{node_laws, zero_laws};
 pub use lp::Lp;
 pub use relaxation::relax;

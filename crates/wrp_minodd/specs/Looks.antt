@@ -50,8 +50,8 @@ IsFar web at s nodes least =
     (v : ℕ) → Contains nodes v → (set : ℕ → Bool) → Keeps web at set → set s ≡ true
     → set v ≡ false → least ≤ cut web set
 
--- the lightest set so far: a split between s and its own t, lighter than the bound; where it is odd,
--- a record was found
+-- the lightest set so far: a split between s and its own t, lighter than the bound; where it is
+-- odd, a record was found
 pub record IsBest (web : Web) (bound : ℕ) (at : ℕ → ℕ) (s found : ℕ) (best : Best) : Type 0 where
   pub long : length best.inside.items ≡ web.junctions
   pub two : All (λ label. label < 2) best.inside.items
@@ -87,7 +87,8 @@ pub record IsKept (bound value : ℕ) (inside : List ℕ) (t : ℕ) (old new : S
   pub heavier : least_of bound old.best ≤ value → new.best ≡ old.best
 
 -- what the least cuts between s and some nodes have shown
-pub record HasSeen (town : Town) (point : Point) (map : List ℕ) (s : ℕ) (nodes : List ℕ) (seen : Seen)
+pub record HasSeen
+    (town : Town) (point : Point) (map : List ℕ) (s : ℕ) (nodes : List ℕ) (seen : Seen)
     : Type 0 where
   pub broken : AreBrokenOnce town point seen.records.items
   pub far : IsFar (web_of town point) (reading map) s nodes

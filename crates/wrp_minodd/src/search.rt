@@ -24,7 +24,8 @@ use wrp_town::{List, Town};
 pub fn min_odd(alloc: Global, rows: &Rows, point: &Point) -> Result<Option<Record>, AllocError>
     requires point { IsPoint rows.now.town point.now }
     requires numbers { HasNumbers point.now }
-    requires services { MeetsServices rows.now.town (denominator_of point.now) (numbers_of point.now) }
+    requires services { MeetsServices rows.now.town (denominator_of point.now)
+        (numbers_of point.now) }
     ensures none { IfOk result (λ found. (found ≡ None) ↔ MeetsOdd rows.now.town point.now) }
     ensures some { IfOk result (λ found. IfSome found (IsBrokenOddCut rows.now.town point.now)) }
 {
@@ -41,7 +42,8 @@ pub fn min_odd(alloc: Global, rows: &Rows, point: &Point) -> Result<Option<Recor
 pub fn broken_odd_sets(alloc: Global, rows: &Rows, point: &Point) -> Result<Vec<Record>, AllocError>
     requires point { IsPoint rows.now.town point.now }
     requires numbers { HasNumbers point.now }
-    requires services { MeetsServices rows.now.town (denominator_of point.now) (numbers_of point.now) }
+    requires services { MeetsServices rows.now.town (denominator_of point.now)
+        (numbers_of point.now) }
     ensures none { IfOk result (λ found. (found.items ≡ []) ↔ MeetsOdd rows.now.town point.now) }
     ensures broken { IfOk result (λ found. AreBrokenOnce rows.now.town point.now found.items) }
 {
@@ -78,8 +80,8 @@ fn search(alloc: Global, town: &Town, point: &Point) -> Result<Vec<Record>, Allo
 fn first_webs(alloc: Global, town: &Town, point: &Point) -> Result<Vec<List<u32>>, AllocError>
     requires point { IsPoint town.now point.now }
     requires numbers { HasNumbers point.now }
-    ensures { IfOk result (λ pending. IsSearch (web_of town.now point.now) (denominator_of point.now)
-        pending.items) }
+    ensures { IfOk result (λ pending.
+        IsSearch (web_of town.now point.now) (denominator_of point.now) pending.items) }
 {
     let mut pending = Vec::new(alloc);
     let own = own_labels(alloc, town.junctions.len() as u32)?;

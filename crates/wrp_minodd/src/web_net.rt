@@ -42,7 +42,8 @@ fn weight(town: &Town, point: &Point, street: u32) -> u128
     requires street { street < length town.now.streets }
     requires point { IsPoint town.now point.now }
     requires numbers { HasNumbers point.now }
-    ensures value { result ≡ spare town.now (denominator_of point.now) (numbers_of point.now) street }
+    ensures value { result
+        ≡ spare town.now (denominator_of point.now) (numbers_of point.now) street }
     ensures small { result ≤ 2 ^ 73 }
 {
     let tally = tally_of(town, point, street);

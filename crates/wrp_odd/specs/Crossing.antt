@@ -50,7 +50,8 @@ pub record AreLight (n : ℕ) (tallies : List Tally) : Type 0 where
 pub record IsCounted (from to : ℕ) (street : Tally) (old new : List Tally) : Type 0 where
   pub long : length new ≡ length old
   pub sums : (c : ℕ) → c < length old
-      → (tally_at new c).sum ≡ (tally_at old c).sum + cond (differ (from == c) (to == c)) street.sum 0
+      → (tally_at new c).sum
+      ≡ (tally_at old c).sum + cond (differ (from == c) (to == c)) street.sum 0
   pub demands : (c : ℕ) → c < length old
       → (tally_at new c).demands
       ≡ (tally_at old c).demands + cond (differ (from == c) (to == c)) street.demands 0

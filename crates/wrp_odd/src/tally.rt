@@ -33,7 +33,10 @@ impl Tally {
     fn add(&mut self, other: Tally)
         requires sum { self.old.sum + other.sum < 2 ^ 128 }
         requires demands { self.old.demands + other.demands < 2 ^ 32 }
-        ensures { self.new ≡ record { sum = self.old.sum + other.sum; demands = self.old.demands + other.demands } }
+        ensures { self.new ≡ record {
+          sum = self.old.sum + other.sum;
+          demands = self.old.demands + other.demands;
+        } }
     {
         self.sum += other.sum;
         self.demands += other.demands;
