@@ -12,7 +12,8 @@ use Rattle.wrp_check.specs.Verdicts.{Verdict, verdict}
 use Rattle.wrp_check.specs.Verdicts as verdicts
 use Rattle.wrp_postman.specs.declared.status.Status.{Status}
 use Rattle.wrp_postman.specs.declared.status.Status.TheVariants.{Accepted, ProofRefused, TableRefused, ReadFault, TooLong, Memory}
-use Rattle.wrp_postman.specs.Runs.{table_bytes, Sources, IsTownTable, HasFault, EndsAtTable, EndsAtProof, FindsCheck}
+use Rattle.wrp_postman.specs.Outsides.{Sources}
+use Rattle.wrp_postman.specs.Runs.{table_bytes, IsTownTable, HasFault, EndsAtTable, EndsAtProof, FindsCheck}
 
 -- ---- a table is that of one town at most
 

@@ -1,3 +1,6 @@
 pub mod Laws
 pub mod Reading
-pub mod Telling
+pub mod ToldStatuses
+pub mod Texts
+pub mod Solutions
+pub mod Numbers

@@ -1,41 +1,31 @@
 -- What a run of the program answers, and what it writes to its output.
-use Rattle.std.specs.Prelude.{◌≡◌, ◌≢◌, ℕ, ◌<◌, ◌≤◌, ◌^◌, ◌⊎◌, List, length, Option, None, Some, IfSome, Err}
-use Rattle.wrp_out.specs.Outside.{Input, Output, FaultRose, Gained, GainedPrefix, WriteStopped}
+use Rattle.std.specs.Prelude.{◌≡◌, ◌≢◌, ℕ, ◌<◌, ◌≤◌, ◌^◌, ◌⊎◌, Bool, true, false, List, length, Option, None, Some, IfSome, Err}
+use Rattle.wrp_out.specs.Outside.{Input, Output, FaultRose, Gained}
 use Rattle.wrp_town.specs.declared.town.Town.{Town}
+use Rattle.wrp_town.specs.Walks.{HasNoTour}
 use Rattle.wrp_street.specs.declared.table.TableFault.{TableFault}
 use Rattle.wrp_street.specs.declared.table.TableFault.TheVariants as faults
-use Rattle.wrp_street.specs.Tables.{table_of, IsTable}
+use Rattle.wrp_street.specs.Tables.{Table, table_of, table_in, IsTable}
+use Rattle.wrp_street.specs.Canonical.{canonical_of}
 use Rattle.wrp_rules.specs.declared.record.End.{End}
 use Rattle.wrp_rules.specs.Proofs.{IsProof}
 use Rattle.wrp_laws.specs.Ends.{EndHolds}
+use Rattle.wrp_parts.specs.RequiredParts.{AreParts}
+use Rattle.wrp_tour.specs.Tours.{HasTour}
+use Rattle.wrp_report.specs.Texts.{text_of, info_lines}
+use Rattle.wrp_report.specs.Grid.{grid_of}
 use Rattle.wrp_check.specs.Verdicts.{Verdict, Refused, Long, verdict}
 use Rattle.wrp_check.specs.Verdicts as verdicts
 use Rattle.wrp_postman.specs.declared.status.Status.{Status}
 use Rattle.wrp_postman.specs.declared.status.Status.TheVariants.{Accepted, ProofRefused, Usage, TableRefused, ReadFault, WriteFault, TooLong, Memory}
 use Rattle.wrp_postman.specs.Statuses.{accepted_line, status_line}
-use Rattle.wrp_postman.specs.Words.{Command, Check}
+use Rattle.wrp_postman.specs.Words.{Command, Solve, Check, Info, Draw}
+use Rattle.wrp_postman.specs.Outsides.{Sources, Outside, IsCut, WritesSome}
+use Rattle.wrp_postman.specs.Searches.{Solves}
 
 -- the greatest number of bytes of a table
 abbrev pub table_bytes : ℕ
 table_bytes = 2 ^ 22
-
--- ---- the outside of a run, before or after it
-
--- what contracts see of its sources
-pub record Sources : Type 0 where
-  pub streets : Input
-  pub proof_in : Input
-
--- what contracts see of all its objects
-pub record Outside : Type 0 where
-  pub sources : Sources
-  pub out : Output
-
-abbrev pub sources : Input → Input → Sources
-sources streets proof_in = record { streets = streets; proof_in = proof_in }
-
-abbrev pub outside : Input → Input → Output → Outside
-outside streets proof_in out = record { sources = sources streets proof_in; out = out }
 
 -- ---- the table
 
@@ -89,22 +79,22 @@ EndsAtProof town status old new = ⊥
 
 -- ---- the answers
 
+-- the run ends at its table, or as the town of the table says
+abbrev pub EndsBehindTable : (Town → Type 0) → Status → Input → Input → Type 0
+EndsBehindTable ends status old new =
+    EndsAtTable status old new ⊎ ((town : Town) × TellsTable old town × ends town)
+
 -- what a check finds: it ends at the table, or at the proof of the town of the table
 abbrev pub FindsCheck : Status → Sources → Sources → Type 0
 FindsCheck status old new =
-    EndsAtTable status old.streets new.streets
-    ⊎ ((town : Town) × TellsTable old.streets town
-    × EndsAtProof town status old.proof_in new.proof_in)
-
--- a part of the line was written, or all of it, and then a write failed or took nothing
-abbrev pub IsCut : Output → Output → List ℕ → Type 0
-IsCut old new line = GainedPrefix old new line × WriteStopped old new
+    EndsBehindTable (λ town. EndsAtProof town status old.proof_in new.proof_in)
+    status old.streets new.streets
 
 -- a check answers what it finds, or that the line of an acceptance that it finds was not written
 abbrev pub AnswersCheck : Status → Outside → Outside → Type 0
 AnswersCheck WriteFault old new =
     (end : End) × FindsCheck (Accepted end) old.sources new.sources
-    × IsCut old.out new.out (accepted_line end)
+    × IsCut old.outputs.out new.outputs.out (accepted_line end)
 AnswersCheck status old new = FindsCheck status old.sources new.sources
 
 -- words that are no command are answered by the usage; want of memory is free
@@ -113,10 +103,49 @@ AnswersUsage Usage = Unit {0}
 AnswersUsage Memory = Unit {0}
 AnswersUsage status = ⊥
 
+-- a tour is there, or there is none
+abbrev pub TellsTour : Town → Bool → Type 0
+TellsTour town true = HasTour town
+TellsTour town false = HasNoTour town
+
+-- how many required parts the town has, and whether it has a tour
+pub record IsInfo (town : Town) (text : List ℕ) : Type 0 where
+  pub parts : ℕ
+  pub of : List (Option ℕ)
+  pub are_parts : AreParts town parts of
+  pub tour : Bool
+  pub has_tour : TellsTour town tour
+  pub is : text ≡ text_of (info_lines town parts tour)
+
+-- such a text of the town of the table is written
+abbrev pub AnswersInfo : Status → Outside → Outside → Type 0
+AnswersInfo status old new = EndsBehindTable
+    (λ town. WritesSome (IsInfo town) status old.outputs.out new.outputs.out)
+    status old.sources.streets new.sources.streets
+
+-- the text is the canonical table of the town that has this table
+abbrev pub IsCanonical : Table → List ℕ → Type 0
+IsCanonical table text = (town : Town) × (table_in town ≡ table) × (text ≡ canonical_of town)
+
+-- such a text is written; want of memory is free
+abbrev pub WritesTable : Table → Status → Output → Output → Type 0
+WritesTable table Memory old new = Unit {0}
+WritesTable table status old new = WritesSome (IsCanonical table) status old new
+
+-- the town of the table is searched, and what is found is written
+abbrev pub AnswersSolve : ℕ → Status → Outside → Outside → Type 0
+AnswersSolve budget status old new = EndsBehindTable
+    (λ town. Solves town budget status old.outputs new.outputs)
+    status old.sources.streets new.sources.streets
+
 -- what a command answers
 abbrev pub Answers : Option Command → Status → Outside → Outside → Type 0
 Answers None status old new = AnswersUsage status
+Answers (Some (Solve streets proof log budget)) status old new = AnswersSolve budget status old new
 Answers (Some (Check streets proof)) status old new = AnswersCheck status old new
+Answers (Some (Info streets)) status old new = AnswersInfo status old new
+Answers (Some (Draw seed width height)) status old new =
+    WritesTable (grid_of seed width height) status old.outputs.out new.outputs.out
 
 -- the line of an acceptance was written; that of another status was, or was cut
 abbrev pub WritesLine : Status → Output → Output → Type 0

@@ -6,7 +6,7 @@ pub(crate) const TRIANGLE: &str = "ab,A,B,3,3,yes\nbc,B,C,4,4,yes\nca,C,A,5,5,ye
 
 pub(crate) const SLOPE: &str = "e,A,B,2,3,yes\n";
 
-const PATH: &str = "e,A,B,1,1,yes\nf,B,C,10,10,no\ng,C,D,1,1,yes\n";
+pub(crate) const PATH: &str = "e,A,B,1,1,yes\nf,B,C,10,10,no\ng,C,D,1,1,yes\n";
 
 /// Two streets side by side, and two loops on a path between the same junctions.
 const CHAIN: &str = "a,P,S,1,1,yes\nb,P,S,1,1,yes\nl,Q,Q,0,-,yes\nm,R,R,0,-,yes\nf,P,Q,1,1,no\n\

@@ -1,24 +1,31 @@
-//! The program: checks proofs of tours over street tables.
+//! The program: finds tours over street tables, and checks proofs of them.
 #![tactic(auto)]
 
 #[cfg(test)]
 mod cases;
 mod command;
+mod files;
+mod info;
 mod input;
 mod run;
+mod solve;
+#[cfg(test)]
+mod solve_tests;
 mod status;
+mod telling;
 #[cfg(test)]
 mod tests;
 mod text;
 mod words;
 
-use command::Names;
-use run::{postman, tell};
+use files::files_of;
+use run::postman;
 use status::Status;
 use std::io::ErrorKind;
 use std::process::ExitCode;
 use std::{env, io};
-use wrp_out::{FileSource, StdoutSink};
+use telling::tell;
+use wrp_out::{FileSink, FileSource, StdoutSink};
 
 /// The words of the command line, without the program's name.
 fn words_of(rt: &(impl std::rt::Env + AllocGlobal)) -> io::Result<Vec<String>> {
@@ -29,21 +36,21 @@ fn words_of(rt: &(impl std::rt::Env + AllocGlobal)) -> io::Result<Vec<String>> {
     Ok(words)
 }
 
-/// The files that a command reads: the streets, and the proof.
-fn files_of<'a>(names: Option<Names<'a>>) -> (&'a str, &'a str) {
-    match names {
-        Some(Names::Check { streets, proof }) => (streets, proof),
-        None => ("", ""),
-    }
-}
-
 /// The status of the command that these words are, over files and standard output.
 fn status_of(rt: &HostRuntime, words: &[String]) -> Status {
-    let (streets, proof) = files_of(words::names(words));
-    let mut streets = FileSource::new(rt, streets);
-    let mut proof = FileSource::new(rt, proof);
+    let files = files_of(words::names(words));
+    let mut streets = FileSource::new(rt, files.streets);
+    let mut proof_in = FileSource::new(rt, files.proof_in);
+    let mut proof_out = FileSink::new(rt, files.proof_out);
     let mut out = StdoutSink::new(rt);
-    postman(rt.alloc(), words, &mut streets, &mut proof, &mut out)
+    postman(
+        rt.alloc(),
+        words,
+        &mut streets,
+        &mut proof_in,
+        &mut proof_out,
+        &mut out,
+    )
 }
 
 fn main(rt: HostRuntime) -> ExitCode {

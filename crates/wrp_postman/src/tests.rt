@@ -67,7 +67,8 @@ fn status_of<S: Source, P: Source, O: Sink>(
     for text in texts {
         words.push(String::from_str(alloc, text)?)?;
     }
-    Ok(postman(alloc, &words, streets, proof, out))
+    let mut unused = SteadySink::new(alloc, 0)?;
+    Ok(postman(alloc, &words, streets, proof, &mut unused, out))
 }
 
 /// What a run answered, and the bytes that it wrote.

@@ -1,10 +1,11 @@
 -- The last tour of a valid list is the cheapest one.
-use Rattle.std.proofs.Common.{◌≡◌, ℕ, min, true, false, ◌==◌, pos, List, [], ◌∷◌, Option, None, Some, is_none, IfSome, subst, arith}
+use Rattle.std.proofs.Common.{◌≡◌, ℕ, min, true, false, ◌==◌, pos, List, [], ◌∷◌, Option, None, Some, is_none, IfSome, refl, subst, arith}
 use Rattle.std.specs.Option.{option_map_or}
 use Rattle.std.specs.List.{fold}
 use Rattle.std.proofs.lemmas.Bool.{and_parts, and_from, eqb-true, ltb-true, false≢true}
 use Rattle.wrp_town.specs.declared.street.Step.{Step}
 use Rattle.wrp_town.specs.declared.town.Town.{Town}
+use Rattle.wrp_town.proofs.WalkLaws.{are_legal, are_legal-from_closed}
 use Rattle.wrp_rules.specs.declared.record.Record.{Record}
 use Rattle.wrp_rules.specs.declared.record.Record.TheVariants.{Tour}
 use Rattle.wrp_rules.specs.declared.record.End.{End}
@@ -54,3 +55,18 @@ pub last_walks : (town : Town) (records : List Record) (end : End) → is_valid 
 last_walks town records (Optimal cost) valid agreeing = of_upper town (standing town records).upper (last_tour records) cost (and_parts _ _ agreeing).1 (cheapest_last town records valid)
 last_walks town records Infeasible valid agreeing = tt
 last_walks town records (Unfinished low high) valid agreeing = of_upper town (standing town records).upper (last_tour records) high (and_parts _ _ (and_parts _ _ agreeing).0).1 (cheapest_last town records valid)
+
+-- ---- its steps are legal
+
+legal_after : (town : Town) (s : Standing) (steps : List Step) (item : Record) → is_none (broken_rule town s item) ≡ true → are_legal town steps ≡ true → are_legal town (tour_after steps item) ≡ true
+legal_after town s steps (Tour cost new) sound legal = are_legal-from_closed town new (rules_kept (all_rules town s (Tour cost new)) sound 3)
+legal_after town s steps item sound legal = legal
+
+all_legal : (town : Town) (records : List Record) (s : Standing) (steps : List Step) → goes_on town s records ≡ true → are_legal town steps ≡ true → are_legal town (fold tour_after steps records) ≡ true
+all_legal town [] s steps valid legal = legal
+all_legal town (item ∷ records) s steps valid legal =
+    let parts = and_parts _ _ valid in
+    all_legal town records (after town s item) (tour_after steps item) parts.1 (legal_after town s steps item parts.0 legal)
+
+pub last_legal : (town : Town) (records : List Record) → is_valid town records ≡ true → are_legal town (last_tour records) ≡ true
+last_legal town records valid = all_legal town records (start town) [] valid refl

@@ -1,11 +1,13 @@
 -- What a status that was told says of the run.
 use Rattle.std.proofs.Common.{◌≡◌, ◌⊎◌, inl, inr, ℕ, List, Option, None, Some, IfSome, refl, sym, subst}
-use Rattle.wrp_out.specs.Outside.{Output, Gained}
+use Rattle.wrp_out.specs.Outside.{Input, Output, Gained}
 use Rattle.wrp_postman.specs.declared.status.Status.{Status}
 use Rattle.wrp_postman.specs.declared.status.Status.TheVariants.{Accepted, Usage, WriteFault, Memory}
-use Rattle.wrp_postman.specs.Words.{Command, Check}
+use Rattle.wrp_postman.specs.Words.{Command, Solve, Check}
 use Rattle.wrp_postman.specs.Statuses.{accepted_line, status_line}
-use Rattle.wrp_postman.specs.Runs.{Outside, FindsCheck, IsCut, Answers, AnswersCheck, AnswersUsage, WritesLine, after_cut, CutsAcceptance, Told}
+use Rattle.wrp_postman.specs.Outsides.{Sources, Outputs, Outside, sources, outputs, outside, IsCut}
+use Rattle.wrp_postman.specs.Searches.{Solves}
+use Rattle.wrp_postman.specs.Runs.{FindsCheck, Answers, AnswersCheck, AnswersUsage, EndsBehindTable, WritesLine, after_cut, CutsAcceptance, Told}
 
 -- the line of a status was written whole, or cut, or it has none
 module _ (old new : Output) where
@@ -52,14 +54,28 @@ module _ (old new : Outside) where
   found_answers WriteFault (inr (town, table, judged)) = absurd judged
   found_answers status found = found
 
-  cut_answers : (status : Status) → FindsCheck status old.sources new.sources → CutsAcceptance status old.out new.out → AnswersCheck WriteFault old new
+  cut_answers : (status : Status) → FindsCheck status old.sources new.sources → CutsAcceptance status old.outputs.out new.outputs.out → AnswersCheck WriteFault old new
   cut_answers (Accepted end) found cut = (end, found, cut)
   cut_answers status found cut = absurd cut
 
-  answer_of_told : (status answer : Status) → FindsCheck status old.sources new.sources → Told status answer old.out new.out → AnswersCheck answer old new
+  answer_of_told : (status answer : Status) → FindsCheck status old.sources new.sources → Told status answer old.outputs.out new.outputs.out → AnswersCheck answer old new
   answer_of_told status answer found (inl (same, written)) = subst (λ (s : Status). AnswersCheck s old new) (sym same) (found_answers status found)
   answer_of_told status answer found (inr (same, cut)) = subst (λ (s : Status). AnswersCheck s old new) (sym same) (cut_answers status found cut)
 
-  pub check_told : (command : Command) (status answer : Status) → FindsCheck status old.sources new.sources → (Told status answer old.out new.out ⊎ Told Memory answer old.out new.out) → Answers (Some command) answer old new
-  check_told (Check streets proof) status answer found (inl told) = answer_of_told status answer found told
-  check_told (Check streets proof) status answer found (inr told) = answer_of_told Memory answer (inl tt) told
+  check_told : (status answer : Status) → FindsCheck status old.sources new.sources → (Told status answer old.outputs.out new.outputs.out ⊎ Told Memory answer old.outputs.out new.outputs.out) → AnswersCheck answer old new
+  check_told status answer found (inl told) = answer_of_told status answer found told
+  check_told status answer found (inr told) = answer_of_told Memory answer (inl tt) told
+
+-- what is answered to a command is answered to the words
+answered : (command : Command) (found : Option Command) (status : Status) (old new : Outside) → Some command ≡ found → Answers (Some command) status old new → Answers found status old new
+answered command found status old new same answers = subst (λ (f : Option Command). Answers f status old new) same answers
+
+pub solve_answered : (found : Option Command) (streets proof : List ℕ) (log : Option (List ℕ)) (budget : ℕ) (status : Status) (s t p q : Input) (a b : Outputs) → Some (Solve streets proof log budget) ≡ found → budget ≡ 0 → EndsBehindTable (λ town. Solves town 0 status a b) status s t → Answers found status (outside (sources s p) a) (outside (sources t q) b)
+solve_answered found streets proof log budget status s t p q a b same none ends =
+    answered (Solve streets proof log budget) found status (outside (sources s p) a) (outside (sources t q) b) same
+    (subst (λ (n : ℕ). EndsBehindTable (λ town. Solves town n status a b) status s t) (sym none) ends)
+
+pub check_answered : (found : Option Command) (streets proof : List ℕ) (status answer : Status) (s t : Sources) (p q a b : Output) → Some (Check streets proof) ≡ found → FindsCheck status s t → (Told status answer a b ⊎ Told Memory answer a b) → Answers found answer (outside s (outputs p a)) (outside t (outputs q b))
+check_answered found streets proof status answer s t p q a b same finds told =
+    answered (Check streets proof) found answer (outside s (outputs p a)) (outside t (outputs q b)) same
+    (check_told (outside s (outputs p a)) (outside t (outputs q b)) status answer finds told)

@@ -1,0 +1,15 @@
+-- The files that a command names.
+use Rattle.std.specs.Prelude.{◌≡◌, [], Option, None, Some}
+use Rattle.wrp_postman.specs.declared.command.Names.{Names}
+use Rattle.wrp_postman.specs.declared.command.Names.TheVariants as names
+use Rattle.wrp_postman.specs.declared.files.Files.{Files}
+
+-- the streets are those of the command, and the proof is read or written where the command does so
+abbrev pub AreFilesOf : Option Names → Files → Type 0
+AreFilesOf (Some (names.Solve streets proof log budget)) files =
+    (files.streets ≡ streets) × (files.proof_out ≡ proof)
+AreFilesOf (Some (names.Check streets proof)) files =
+    (files.streets ≡ streets) × (files.proof_in ≡ proof)
+AreFilesOf (Some (names.Info streets)) files = files.streets ≡ streets
+AreFilesOf (Some (names.Town seed width height)) files = Unit {0}
+AreFilesOf None files = Unit {0}
