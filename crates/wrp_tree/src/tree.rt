@@ -3,7 +3,7 @@ ghost use Rattle.std.specs.Prelude.{◌≡◌, ℕ, ◌*◌, ◌<◌, ◌≤ℤ�
 ghost use Rattle.std.specs.List.{count_by};
 ghost use Rattle.wrp_town.specs.declared.street.Step.{Step};
 ghost use Rattle.wrp_town.specs.Walks.{is_tour, walk_cost, HasNoTour};
-ghost use Rattle.wrp_rules.specs.Nodes.{node_at, done, lower};
+ghost use Rattle.wrp_rules.specs.Nodes.{node_at, done, lower, is_open};
 ghost use Rattle.wrp_rules.specs.Lists.{is_valid};
 ghost use Rattle.wrp_rules.specs.Rules.{broken_rule, is_cut};
 ghost use Rattle.wrp_writer.specs.Limits.{is_writable};
@@ -170,6 +170,15 @@ impl<'t> Tree<'t> {
             Some(entry) => Some(entry.node),
             None => None,
         }
+    }
+
+    /// Whether a node is open.
+    pub fn is_open(&self, node: u64) -> bool
+        requires { node < length (now self.now).nodes }
+        ensures { result ≡ is_open (now self.now).upper
+            (node_at self.now.town (now self.now) node) }
+    {
+        self.kept.index.is_open(node)
     }
 
     /// Puts the box of a node into bounds with one entry for each arc.

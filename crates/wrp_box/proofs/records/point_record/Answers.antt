@@ -1,0 +1,24 @@
+use Rattle.std.proofs.Common.{◌≡◌, ℕ, Bool, ◌==◌, not, List, map, length, ap, sym, ◌∙◌, arith}
+use Rattle.std.specs.List.{filter, range_with_len}
+use Rattle.std.proofs.lemmas.List.FromFn.{filter_of_map_range_with_len_more}
+use Rattle.wrp_odd.specs.Points.{numbers_of}
+use Rattle.wrp_box.specs.Points.{with_number}
+use Rattle.wrp_box.proofs.OnlyPoints.{point_written}
+use Rattle.wrp_box.proofs.records.point_record.Goals as goal
+
+pub loop-arc-preserved : goal.loop-arc-preserved
+loop-arc-preserved c =
+    let arc = c.loop-arc.arc in
+    let x = numbers_of c.args.point.now in
+    let kept : ℕ × ℕ → Bool = λ q. not (q.1 == 0) in
+    let pair : ℕ → ℕ × ℕ = λ a. (a, x a) in
+    c.in_ok-add_number.ensures
+    ∙ ap (λ (n : ℕ). with_number c.loop-arc.numbers (arc, n)) c.number_of.ensures
+    ∙ ap (λ (pairs : List (ℕ × ℕ)). with_number pairs (arc, x arc)) c.loop-arc.invariant
+    ∙ sym (filter_of_map_range_with_len_more kept pair 0 arc arc (omega arith))
+
+pub returns : goal.returns
+returns c =
+    let end : c.loop-arc.arc ≡ length c.args.point.now.at = omega (arith, c.len-arc-end.ensures, c.loop-arc-test.false, c.loop-arc.auto.arc-end) in
+    point_written c.where_writable.result c.args.node c.den_of.result c.loop-arc.numbers c.args.point.now c.where_writable.ensures c.den_of.ensures
+    (c.loop-arc.invariant ∙ ap (λ (n : ℕ). filter (λ (q : ℕ × ℕ). not (q.1 == 0)) (map (λ (a : ℕ). (a, numbers_of c.args.point.now a)) (range_with_len 0 n))) end)
