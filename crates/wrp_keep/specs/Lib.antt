@@ -1,0 +1,5 @@
+pub mod Keeps
+pub mod Joins
+pub mod Appends
+pub mod Faults
+pub mod Calls

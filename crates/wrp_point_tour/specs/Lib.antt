@@ -1,0 +1,3 @@
+pub mod PointTours
+pub mod Counts
+pub mod Search
