@@ -1,3 +1,4 @@
 pub mod Relaxing
 pub mod Branching
 pub mod Points
+pub mod Records

@@ -7,6 +7,7 @@ ghost use Rattle.wrp_rows.specs.Points.{IsPoint, most_denominator};
 ghost use Rattle.wrp_writer.specs.Limits.{is_writable};
 ghost use Rattle.wrp_odd.specs.Points.{HasNumbers, denominator_of, numbers_of};
 ghost use Rattle.wrp_box.specs.Relaxing.{IsRelaxed};
+ghost use Rattle.wrp_box.specs.Records.{IsShownRecord};
 ghost use Rattle.wrp_box.specs.Points.{IsPointRecord, with_number};
 
 use std::alloc::{AllocError, Global};
@@ -27,7 +28,7 @@ use wrp_writer::writable;
 pub fn shown_record(alloc: Global, node: u64, lp: &Lp) -> Result<Option<Record>, AllocError>
     requires { (pool : RowPool) × (bounds : Bounds) × (pivots : ℕ)
         × IsRelaxed pool bounds pivots lp.now }
-    ensures { IfOk result (λ item. IfSome item (λ r. is_writable r ≡ true)) }
+    ensures { IfOk result (λ item. IfSome item (IsShownRecord node)) }
 {
     let item = match lp {
         Lp::Optimal { point, mult, .. } => {
