@@ -1,0 +1,9 @@
+pub mod Searches
+pub mod Offers
+pub mod Found
+pub mod Faults
+pub mod Splits
+pub mod Closing
+pub mod Desks
+pub mod Sights
+pub mod Cuts
