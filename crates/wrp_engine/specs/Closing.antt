@@ -16,8 +16,8 @@ use Rattle.wrp_box.specs.Points.{alone}
 use Rattle.wrp_box.specs.Relaxing.{IsPointIn}
 use Rattle.wrp_engine.specs.Searches.{now, at_node}
 
--- the node's box holds one point, which is this one; its numbers are whole, none above the number of
--- demands, and it meets all rows
+-- the node's box holds one point, which is this one; its numbers are whole, none above the
+-- number of demands, and it meets all rows
 pub record IsOnlyPoint (keep : KeepState) (node : ℕ) (point : Point) : Type 0 where
   pub den : point.den ≡ pos 1
   pub whole : IsWhole point (length (demands keep.town))

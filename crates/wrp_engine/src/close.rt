@@ -21,8 +21,8 @@ use wrp_rows::Point;
 use wrp_rules::Record;
 use wrp_town::{List, Step};
 
-/// Closes an open node whose box holds one point: that breaks a row, or its arcs leave some required
-/// street alone, or it holds a tour.
+/// Closes an open node whose box holds one point: that breaks a row, or its arcs leave some
+/// required street alone, or it holds a tour.
 pub(crate) fn close<D: Disk>(
     alloc: Global,
     desk: &mut Desk<'_, '_>,

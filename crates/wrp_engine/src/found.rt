@@ -5,8 +5,8 @@ pub enum Found {
     Optimal {
         cost: u64,
     },
-    /// A node is open, and the budget is spent: each tour costs at least `low`, and the cheapest one
-    /// so far `high`. So many nodes were done before, and are done after.
+    /// A node is open, and the budget is spent: each tour costs at least `low`, and the cheapest
+    /// one so far `high`. So many nodes were done before, and are done after.
     Unfinished {
         low: u64,
         high: u64,

@@ -1,6 +1,6 @@
-//! The search for the cheapest tour: turns at open nodes, each with rounds of cuts, until no node is
-//! open or a budget is spent. The policy (which cuts, which arc, when tours are tried) takes no part
-//! in any proof but those of its limits.
+//! The search for the cheapest tour: turns at open nodes, each with rounds of cuts, until no node
+//! is open or a budget is spent. The policy (which cuts, which arc, when tours are tried) takes no
+//! part in any proof but those of its limits.
 #![tactic(auto)]
 
 mod close;

@@ -33,7 +33,8 @@ pub(crate) enum RoundEnd {
     Idle { point: Option<Point> },
 }
 
-/// The rounds of a turn, until one adds no cut. The point of the last relaxation, where that has one.
+/// The rounds of a turn, until one adds no cut. The point of the last relaxation, where there is
+/// one.
 pub(crate) fn rounds<D: Disk>(
     alloc: Global,
     desk: &Desk<'_, '_>,

@@ -1,15 +1,15 @@
 -- Numbers and commands that words are.
-use Rattle.std.proofs.Common.{◌≡◌, ◌∙◌, ℕ, zero, suc, ◌+◌, ◌^◌, ◌<◌, ◌≤◌, ◌⊎◌, Bool, true, false, ◌&&◌, List, [], ◌∷◌, length, Option, None, Some, refl, sym, ap, subst, inl, inr, arith, rules}
-use Rattle.std.specs.Prelude.{if◌then◌else◌, nat_lt, nat_le}
+use Rattle.std.proofs.Common.{◌≡◌, ℕ, ◌^◌, ◌<◌, ◌≤◌, ◌⊎◌, Bool, true, false, ◌&&◌, List, [], ◌∷◌, length, None, Some, refl, sym, arith, rules}
+use Rattle.std.specs.Prelude.{if◌then◌else◌, nat_le}
 use Rattle.std.specs.Char.{is_ascii_digit}
 use Rattle.std.specs.List.{list_all}
 use Rattle.std.specs.Str.Parse.{digits_value}
-use Rattle.std.proofs.lemmas.Bool.{and_parts, cases_Bool, lt-ltb, false≢true}
+use Rattle.std.proofs.lemmas.Bool.{and_parts, lt-ltb, false≢true}
 use Rattle.std.proofs.lemmas.Option.{none-some}
 use Rattle.std.proofs.lemmas.Str.Parse.{IsNumeralModel, numerals_by_value, digits_value_short}
 use Rattle.wrp_rules.specs.Ranges.{is_count}
-use Rattle.wrp_grammar.specs.Parts.{is_digits, is_number, number_of}
-use Rattle.wrp_postman.specs.Words.{most_digits, number_in, Command, command_of}
+use Rattle.wrp_grammar.specs.Parts.{is_number, number_of}
+use Rattle.wrp_postman.specs.Words.{most_digits, number_in, command_of}
 
 digits_model : IsNumeralModel (λ ds. list_all is_ascii_digit ds ≡ true) (digits_value 10)
 digits_model = numerals_by_value (λ ds. list_all is_ascii_digit ds ≡ true) (search rules)

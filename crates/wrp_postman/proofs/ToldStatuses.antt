@@ -70,10 +70,9 @@ module _ (old new : Outside) where
 answered : (command : Command) (found : Option Command) (status : Status) (old new : Outside) → Some command ≡ found → Answers (Some command) status old new → Answers found status old new
 answered command found status old new same answers = subst (λ (f : Option Command). Answers f status old new) same answers
 
-pub solve_answered : (found : Option Command) (streets proof : List ℕ) (log : Option (List ℕ)) (budget : ℕ) (status : Status) (s t p q : Input) (a b : Outputs) → Some (Solve streets proof log budget) ≡ found → budget ≡ 0 → EndsBehindTable (λ town. Solves town 0 status a b) status s t → Answers found status (outside (sources s p) a) (outside (sources t q) b)
-solve_answered found streets proof log budget status s t p q a b same none ends =
-    answered (Solve streets proof log budget) found status (outside (sources s p) a) (outside (sources t q) b) same
-    (subst (λ (n : ℕ). EndsBehindTable (λ town. Solves town n status a b) status s t) (sym none) ends)
+pub solve_answered : (found : Option Command) (streets proof : List ℕ) (log : Option (List ℕ)) (budget : ℕ) (status : Status) (s t p q : Input) (a b : Outputs) → Some (Solve streets proof log budget) ≡ found → EndsBehindTable (λ town. Solves town budget status a b) status s t → Answers found status (outside (sources s p) a) (outside (sources t q) b)
+solve_answered found streets proof log budget status s t p q a b same ends =
+    answered (Solve streets proof log budget) found status (outside (sources s p) a) (outside (sources t q) b) same ends
 
 pub check_answered : (found : Option Command) (streets proof : List ℕ) (status answer : Status) (s t : Sources) (p q a b : Output) → Some (Check streets proof) ≡ found → FindsCheck status s t → (Told status answer a b ⊎ Told Memory answer a b) → Answers found answer (outside s (outputs p a)) (outside t (outputs q b))
 check_answered found streets proof status answer s t p q a b same finds told =

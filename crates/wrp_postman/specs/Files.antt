@@ -1,5 +1,5 @@
 -- The files that a command names.
-use Rattle.std.specs.Prelude.{◌≡◌, [], Option, None, Some}
+use Rattle.std.specs.Prelude.{◌≡◌, Option, Some}
 use Rattle.wrp_postman.specs.declared.command.Names.{Names}
 use Rattle.wrp_postman.specs.declared.command.Names.TheVariants as names
 use Rattle.wrp_postman.specs.declared.files.Files.{Files}
@@ -11,5 +11,4 @@ AreFilesOf (Some (names.Solve streets proof log budget)) files =
 AreFilesOf (Some (names.Check streets proof)) files =
     (files.streets ≡ streets) × (files.proof_in ≡ proof)
 AreFilesOf (Some (names.Info streets)) files = files.streets ≡ streets
-AreFilesOf (Some (names.Town seed width height)) files = Unit {0}
-AreFilesOf None files = Unit {0}
+AreFilesOf command files = Unit {0}

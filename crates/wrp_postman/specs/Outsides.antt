@@ -3,7 +3,7 @@ use Rattle.std.specs.Prelude.{◌≡◌, ℕ, Bool, true, false, List, Option, N
 use Rattle.wrp_out.specs.Outside.{Input, Output, TookAtMost, Gained, GainedPrefix, WriteStopped}
 use Rattle.wrp_postman.specs.declared.status.Status.{Status}
 use Rattle.wrp_postman.specs.declared.status.Status.TheVariants.{Optimal, Done, Unfinished, Infeasible, WriteFault}
-use Rattle.wrp_postman.specs.Words.{Command, Solve, Check, Draw}
+use Rattle.wrp_postman.specs.Words.{Command, Solve, Check, Draw, Demo}
 
 -- what contracts see of its sources
 pub record Sources : Type 0 where
@@ -48,6 +48,7 @@ WritesSome kind status old new = (text : List ℕ) × kind text × Writes text s
 abbrev pub reads_streets : Option Command → Bool
 reads_streets None = false
 reads_streets (Some (Draw seed width height)) = false
+reads_streets (Some (Demo seed width height budget)) = false
 reads_streets (Some command) = true
 
 abbrev pub reads_proof : Option Command → Bool

@@ -16,12 +16,13 @@ use Rattle.wrp_report.specs.Texts.{text_of, info_lines}
 use Rattle.wrp_report.specs.Grid.{grid_of}
 use Rattle.wrp_check.specs.Verdicts.{Verdict, Refused, Long, verdict}
 use Rattle.wrp_check.specs.Verdicts as verdicts
+use Rattle.wrp_postman.specs.declared.demo.SummaryText.{SummaryText}
 use Rattle.wrp_postman.specs.declared.status.Status.{Status}
 use Rattle.wrp_postman.specs.declared.status.Status.TheVariants.{Accepted, ProofRefused, Usage, TableRefused, ReadFault, WriteFault, TooLong, Memory}
 use Rattle.wrp_postman.specs.Statuses.{accepted_line, status_line}
-use Rattle.wrp_postman.specs.Words.{Command, Solve, Check, Info, Draw}
+use Rattle.wrp_postman.specs.Words.{Command, Solve, Check, Info, Draw, Demo}
 use Rattle.wrp_postman.specs.Outsides.{Sources, Outside, IsCut, WritesSome}
-use Rattle.wrp_postman.specs.Searches.{Solves}
+use Rattle.wrp_postman.specs.Searches.{Solves, IsSummary, Demonstrates}
 
 -- the greatest number of bytes of a table
 abbrev pub table_bytes : ℕ
@@ -138,6 +139,17 @@ AnswersSolve budget status old new = EndsBehindTable
     (λ town. Solves town budget status old.outputs new.outputs)
     status old.sources.streets new.sources.streets
 
+-- the summary is that of a search of the town that has this table
+abbrev pub IsDrawnSummary : Table → ℕ → SummaryText → Type 0
+IsDrawnSummary table budget summary =
+    (town : Town) × (table_in town ≡ table) × IsSummary town budget summary
+
+-- the town that has this table is searched, and the summary is written; want of memory is free
+abbrev pub AnswersDemo : Table → ℕ → Status → Output → Output → Type 0
+AnswersDemo table budget Memory old new = Unit {0}
+AnswersDemo table budget status old new =
+    (town : Town) × (table_in town ≡ table) × Demonstrates town budget status old new
+
 -- what a command answers
 abbrev pub Answers : Option Command → Status → Outside → Outside → Type 0
 Answers None status old new = AnswersUsage status
@@ -146,6 +158,8 @@ Answers (Some (Check streets proof)) status old new = AnswersCheck status old ne
 Answers (Some (Info streets)) status old new = AnswersInfo status old new
 Answers (Some (Draw seed width height)) status old new =
     WritesTable (grid_of seed width height) status old.outputs.out new.outputs.out
+Answers (Some (Demo seed width height budget)) status old new =
+    AnswersDemo (grid_of seed width height) budget status old.outputs.out new.outputs.out
 
 -- the line of an acceptance was written; that of another status was, or was cut
 abbrev pub WritesLine : Status → Output → Output → Type 0

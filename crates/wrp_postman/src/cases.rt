@@ -12,10 +12,15 @@ pub(crate) const PATH: &str = "e,A,B,1,1,yes\nf,B,C,10,10,no\ng,C,D,1,1,yes\n";
 const CHAIN: &str = "a,P,S,1,1,yes\nb,P,S,1,1,yes\nl,Q,Q,0,-,yes\nm,R,R,0,-,yes\nf,P,Q,1,1,no\n\
     g,Q,R,1,1,no\nh,R,S,1,1,no\n";
 
+/// The streets of nine junctions in three rows.
+const GRID: &str = "ab,A,B,1,1,yes\nbc,B,C,1,1,yes\nde,D,E,1,1,yes\nef,E,F,1,1,yes\n\
+    gh,G,H,1,1,yes\nhi,H,I,1,1,yes\nad,A,D,1,1,yes\ndg,D,G,1,1,yes\n\
+    be,B,E,1,1,yes\neh,E,H,1,1,yes\ncf,C,F,1,1,yes\nfi,F,I,1,1,yes\n";
+
 /// The rows of a table, a proof from its version on, and what the check of both prints.
 pub(crate) type Case = (&'static str, &'static str, &'static str);
 
-pub(crate) const CASES: [Case; 57] = [
+pub(crate) const CASES: [Case; 58] = [
     // Proofs that are accepted.
     (
         TRIANGLE,
@@ -100,6 +105,12 @@ pub(crate) const CASES: [Case; 57] = [
         CHAIN,
         "1\nt 6 0+ 1- 4+ 2+ 5+ 3+ 5- 4-\nk 3 0 3 1 2\nb 0 1 8:1\nend optimal 6\n",
         "accepted optimal 6",
+    ),
+    (
+        GRID,
+        "1\nt 16 6+ 7+ 4+ 5+ 11- 11+ 5- 9- 8- 0- 6+ 2+ 3+ 10- 1- 0-\no 1\no 3\no 5\no 7\n\
+            b 0 1 21:1 22:1 23:1 24:1\nend optimal 16\n",
+        "accepted optimal 16",
     ),
     // Towns without a tour.
     (

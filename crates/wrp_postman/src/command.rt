@@ -25,4 +25,11 @@ pub enum Names<'a> {
         width: u32,
         height: u32,
     },
+    /// Searches a town that is drawn from a seed, and tells what it finds.
+    Demo {
+        seed: u32,
+        width: u32,
+        height: u32,
+        budget: u64,
+    },
 }

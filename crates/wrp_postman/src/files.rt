@@ -19,7 +19,7 @@ pub(crate) fn files_of<'a>(names: Option<Names<'a>>) -> Files<'a>
         Some(Names::Solve { streets, proof, .. }) => (streets, "", proof),
         Some(Names::Check { streets, proof }) => (streets, proof, ""),
         Some(Names::Info { streets }) => (streets, "", ""),
-        Some(Names::Town { .. }) | None => ("", "", ""),
+        Some(Names::Town { .. } | Names::Demo { .. }) | None => ("", "", ""),
     };
     Files {
         streets,

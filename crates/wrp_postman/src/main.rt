@@ -4,10 +4,12 @@
 #[cfg(test)]
 mod cases;
 mod command;
+mod demo;
 mod files;
 mod info;
 mod input;
 mod run;
+mod search;
 mod solve;
 #[cfg(test)]
 mod solve_tests;

@@ -8,9 +8,10 @@ ghost use Rattle.wrp_postman.specs.Words.{command_of};
 ghost use Rattle.wrp_postman.specs.Inputs.{Stops};
 ghost use Rattle.wrp_postman.specs.Outsides.{sources, outputs, outside, WritesSome, LeavesOthers, TakesFew, has_searched};
 ghost use Rattle.wrp_postman.specs.Searches.{Solves};
-ghost use Rattle.wrp_postman.specs.Runs.{table_bytes, TellsTable, TellsTown, EndsAtTable, EndsAtProof, EndsBehindTable, FindsCheck, IsInfo, IsCanonical, WritesTable, Answers, WritesLine};
+ghost use Rattle.wrp_postman.specs.Runs.{table_bytes, TellsTable, TellsTown, EndsAtTable, EndsAtProof, EndsBehindTable, FindsCheck, IsInfo, IsCanonical, WritesTable, IsDrawnSummary, AnswersDemo, Answers, WritesLine};
 
 use crate::command::Names;
+use crate::demo::{SummaryText, put_summary, summary_of};
 use crate::info::info_of;
 use crate::input::{InputFault, read_all};
 use crate::solve::{put_texts, texts_of};
@@ -127,15 +128,55 @@ fn run_town<O: Sink>(alloc: Global, seed: u32, width: u32, height: u32, out: &mu
     }
 }
 
+/// The summary of the search of a town that is drawn.
+fn drawn_summary(
+    alloc: Global,
+    seed: u32,
+    width: u32,
+    height: u32,
+    budget: u64,
+) -> Result<SummaryText, AllocError>
+    requires seed { seed < 2 ^ 31 }
+    requires width { width ≤ 20 }
+    requires height { height ≤ 20 }
+    ensures { IfOk result (IsDrawnSummary (grid_of seed width height) budget) }
+{
+    let town = town_of(alloc, seed, width, height)?;
+    summary_of(alloc, &town, budget)
+}
+
+/// Searches a town that is drawn, and writes the summary.
+fn run_demo<O: Sink>(
+    alloc: Global,
+    seed: u32,
+    width: u32,
+    height: u32,
+    budget: u64,
+    out: &mut O,
+) -> Status
+    requires seed { seed < 2 ^ 31 }
+    requires width { width ≤ 20 }
+    requires height { height ≤ 20 }
+    ensures answer { AnswersDemo (grid_of seed width height) budget result
+        (O.output out.old) (O.output out.new) }
+    ensures line { WritesLine result (O.output out.old) (O.output out.new) }
+{
+    match drawn_summary(alloc, seed, width, height, budget) {
+        Ok(summary) => put_summary(out, &summary),
+        Err(AllocError) => tell(alloc, out, Status::Memory),
+    }
+}
+
 /// Searches the town of the table of streets, and writes what is found.
 fn run_solve<S: Source, Q: Sink, O: Sink>(
     alloc: Global,
+    budget: u64,
     streets: &mut S,
     proof_out: &mut Q,
     out: &mut O,
 ) -> Status
     ensures answer { EndsBehindTable
-        (λ town. Solves town 0 result (outputs (Q.output proof_out.old) (O.output out.old))
+        (λ town. Solves town budget result (outputs (Q.output proof_out.old) (O.output out.old))
         (outputs (Q.output proof_out.new) (O.output out.new)))
         result (S.input streets.old) (S.input streets.new) }
     ensures unwritten { has_searched result ≡ false → proof_out.new ≡ proof_out.old }
@@ -146,7 +187,7 @@ fn run_solve<S: Source, Q: Sink, O: Sink>(
         Ok(town) => town,
         Err(status) => return tell(alloc, out, status),
     };
-    match texts_of(alloc, &town) {
+    match texts_of(alloc, &town, budget) {
         Ok(texts) => put_texts(proof_out, out, &texts),
         Err(AllocError) => tell(alloc, out, Status::Memory),
     }
@@ -187,7 +228,7 @@ pub fn postman<S: Source, P: Source, Q: Sink, O: Sink>(
     ensures line { WritesLine result (O.output out.old) (O.output out.new) }
 {
     match names(words) {
-        Some(Names::Solve { .. }) => run_solve(alloc, streets, proof_out, out),
+        Some(Names::Solve { budget, .. }) => run_solve(alloc, budget, streets, proof_out, out),
         Some(Names::Check { .. }) => {
             let status = check_files(alloc, streets, proof_in);
             tell(alloc, out, status)
@@ -200,6 +241,14 @@ pub fn postman<S: Source, P: Source, Q: Sink, O: Sink>(
                 height,
             },
         ) => run_town(alloc, seed, width, height, out),
+        Some(
+            Names::Demo {
+                seed,
+                width,
+                height,
+                budget,
+            },
+        ) => run_demo(alloc, seed, width, height, budget, out),
         None => tell(alloc, out, Status::Usage),
     }
 }

@@ -1,31 +1,22 @@
 //! Searches for the cheapest tour of a town, and writes what is found.
-ghost use Rattle.std.specs.Prelude.{◌≡◌, ◌==◌, if◌then◌else◌, ℕ, true, IfOk};
-ghost use Rattle.wrp_town.specs.Walks.{walk_cost as walk_cost_of};
+ghost use Rattle.std.specs.Prelude.{ℕ, IfOk};
 ghost use Rattle.wrp_town.specs.declared.town.Town.{Town};
 ghost use Rattle.wrp_reach.specs.Answers.{IsSplit};
-ghost use Rattle.wrp_tour.specs.Tours.{IsLeanTour};
+ghost use Rattle.wrp_tour.specs.Tours.{HasTour};
 ghost use Rattle.wrp_postman.specs.Outsides.{outputs};
-ghost use Rattle.wrp_postman.specs.Searches.{status_of as status_of_end, end_of_tour, IsSolution, AreTexts, Solves};
+ghost use Rattle.wrp_postman.specs.Searches.{IsListed, IsAnswer, AreTexts, Solves};
 
+use crate::search::{Solved, with_tour, without_tour};
 use crate::status::Status;
 use std::alloc::{AllocError, Global};
 use wrp_graph::Graph;
+use wrp_keep::Keep;
 use wrp_out::{Sink, write_all};
-use wrp_parts::required_parts;
-use wrp_proof::{End, Record};
 use wrp_reach::{Reach, labels};
-use wrp_report::{Answer, report};
+use wrp_report::report;
+use wrp_rules::Record;
 use wrp_street::Town;
-use wrp_tour::{first_tour, improve};
-use wrp_town::{List, Step, walk_cost};
 use wrp_writer::proof_text;
-
-/// A list of records, and what is reported of it.
-#[derive(Debug, Drop)]
-pub(crate) struct Solution {
-    records: Vec<Record>,
-    answer: Answer,
-}
 
 /// What is written of a search, and the status in which it ends.
 #[derive(Debug, Drop)]
@@ -35,34 +26,54 @@ pub(crate) struct Texts {
     report: Vec<u8>,
 }
 
-/// What is written of a search that may do so many nodes: none.
-pub(crate) fn texts_of(alloc: Global, town: &Town) -> Result<Texts, AllocError>
-    ensures { IfOk result (AreTexts town.now 0) }
+/// What is written of a search that ends where so many nodes are done.
+pub(crate) fn texts_of(alloc: Global, town: &Town, budget: u64) -> Result<Texts, AllocError>
+    ensures { IfOk result (AreTexts town.now budget) }
 {
-    let solution = solution_of(alloc, town)?;
-    let proof = proof_text(alloc, &solution.records, &solution.answer.end)?;
-    let report = report(alloc, town, &solution.answer)?;
+    let graph = Graph::new(alloc, town)?;
+    match labels(alloc, &graph)? {
+        Reach::Split { item } => texts_without_tour(alloc, town, item),
+        Reach::Joined { .. } => texts_with_tour(alloc, &graph, budget),
+    }
+}
+
+/// What is written where there is no tour.
+fn texts_without_tour(alloc: Global, town: &Town, item: Record) -> Result<Texts, AllocError>
+    requires { IsSplit town.now item }
+    ensures { (budget : ℕ) → IfOk result (AreTexts town.now budget) }
+{
+    let records = vec![in alloc; item]?;
+    texts_from(alloc, town, &records, &without_tour(alloc))
+}
+
+/// What is written of a search where there is a tour.
+fn texts_with_tour(alloc: Global, graph: &Graph<'_>, budget: u64) -> Result<Texts, AllocError>
+    requires { HasTour graph.now }
+    ensures { IfOk result (AreTexts graph.now budget) }
+{
+    let mut keep = Keep::bare(alloc, graph.town())?;
+    let solved = with_tour(alloc, graph, &mut keep, budget)?;
+    texts_from(alloc, graph.town(), keep.tree().records(), &solved)
+}
+
+/// The texts of a list.
+fn texts_from(
+    alloc: Global,
+    town: &Town,
+    records: &[Record],
+    solved: &Solved,
+) -> Result<Texts, AllocError>
+    requires { IsListed town.now records.now solved.now.answer }
+    ensures { (budget : ℕ) → IsAnswer town.now budget records.now solved.now
+        → IfOk result (AreTexts town.now budget) }
+{
+    let proof = proof_text(alloc, records, &solved.answer.end)?;
+    let report = report(alloc, town, &solved.answer)?;
     Ok(Texts {
-        status: status_of(&solution.answer),
+        status: solved.status,
         proof,
         report,
     })
-}
-
-/// The status in which a search ends.
-fn status_of(answer: &Answer) -> Status
-    ensures { result ≡ status_of_end answer.now.end answer.now.done }
-{
-    match answer.end {
-        End::Optimal { cost } => Status::Optimal { cost },
-        End::Infeasible => Status::Infeasible,
-        End::Unfinished { low, high } => Status::Unfinished {
-            low,
-            high,
-            before: 0,
-            after: answer.done,
-        },
-    }
 }
 
 /// Writes the proof, and then the report.
@@ -77,92 +88,5 @@ pub(crate) fn put_texts<Q: Sink, O: Sink>(proof_out: &mut Q, out: &mut O, texts:
     match write_all(out, &texts.report) {
         Ok(()) => texts.status,
         Err(_) => Status::WriteFault,
-    }
-}
-
-/// What shows that a town has no tour, or a tour of it.
-fn solution_of(alloc: Global, town: &Town) -> Result<Solution, AllocError>
-    ensures { IfOk result (IsSolution town.now) }
-{
-    let graph = Graph::new(alloc, town)?;
-    match labels(alloc, &graph)? {
-        Reach::Split { item } => without_tour(alloc, town, item),
-        Reach::Joined { .. } => {
-            let parts = required_parts(alloc, &graph)?;
-            let first = first_tour(alloc, &graph, &parts)?;
-            let steps = improve(alloc, &graph, first.as_slice())?;
-            with_tour(alloc, town, steps)
-        }
-    }
-}
-
-/// The solution of a town without a tour.
-fn without_tour(alloc: Global, town: &Town, item: Record) -> Result<Solution, AllocError>
-    requires { IsSplit town.now item }
-    ensures { IfOk result (IsSolution town.now) }
-{
-    Ok(Solution {
-        records: vec![in alloc; item]?,
-        answer: Answer {
-            end: End::Infeasible,
-            nodes: 1,
-            done: 0,
-            cuts: 0,
-            blind: 0,
-            steps: List::new(alloc),
-        },
-    })
-}
-
-/// The solution that a tour alone is: optimal where it costs nothing.
-fn with_tour(alloc: Global, town: &Town, steps: List<Step>) -> Result<Solution, AllocError>
-    requires { IsLeanTour town.now steps }
-    ensures { IfOk result (IsSolution town.now) }
-{
-    let cost = tour_cost(town, steps.as_slice());
-    let walk = copied(alloc, steps.as_slice())?;
-    Ok(Solution {
-        records: vec![in alloc; Record::Tour { cost, steps }]?,
-        answer: Answer {
-            end: end_at(cost),
-            nodes: 1,
-            done: done_at(cost),
-            cuts: 0,
-            blind: 0,
-            steps: walk,
-        },
-    })
-}
-
-/// The cost of a tour.
-fn tour_cost(town: &Town, steps: &[Step]) -> u64
-    requires { IsLeanTour town.now steps.now }
-    ensures { result ≡ walk_cost_of town.now steps.now }
-{
-    walk_cost(town, steps).unwrap_or(0)
-}
-
-/// A copy of steps.
-fn copied(alloc: Global, steps: &[Step]) -> Result<List<Step>, AllocError>
-    ensures { IfOk result (λ copy. copy ≡ steps.now) }
-{
-    Ok(List::from_vec(steps.to_vec(alloc)?))
-}
-
-/// How many nodes are done behind a list of one tour.
-fn done_at(cost: u64) -> u64
-    ensures { result ≡ (if cost == 0 then 1 else 0) }
-{
-    u64::from(cost == 0)
-}
-
-/// The end of a list of one tour.
-fn end_at(cost: u64) -> End
-    ensures { result ≡ end_of_tour cost }
-{
-    if cost == 0 {
-        End::Optimal { cost }
-    } else {
-        End::Unfinished { low: 0, high: cost }
     }
 }

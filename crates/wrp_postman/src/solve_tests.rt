@@ -1,40 +1,29 @@
-// What no clause says: that tours are found in worked towns, and what is printed of them.
-use crate::cases::{HEADER, PATH, SLOPE};
+// What no clause says: that cheapest tours of worked towns are found, and what is printed of them.
+use crate::cases::{CASES, HEADER, PATH, SLOPE};
 use crate::run::postman;
 use crate::status::Status;
 use std::alloc::{AllocError, Global};
 use std::test::Fail;
 use wrp_out::{SteadySink, SteadySource};
-use wrp_proof::End;
 
 /// The bytes that the sinks of a test have room for.
 const ROOM: usize = 65_536;
 
-/// Rows of a table, the end of what a solve finds, and its report.
-type Found = (&'static str, End, &'static str);
-
-const FOUND: [Found; 4] = [
+/// Rows of a table, and the report of a solve of it that may do no node.
+const FIRST: [(&str, &str); 3] = [
     (
         "",
-        End::Optimal { cost: 0 },
         "optimal 0\nstreets 0 junctions 0 required 0 class empty\n\
             nodes 1 done 1 cuts 0 blind 0\nsteps 0\n",
     ),
     (
         SLOPE,
-        End::Unfinished { low: 0, high: 5 },
         "unfinished 0 5\nstreets 1 junctions 2 required 1 class windy\n\
             nodes 1 done 0 cuts 0 blind 0\nsteps 2\n\
             0+\te\tA\tB\t2\n0-\te\tB\tA\t3\n",
     ),
     (
         "e,A,B,2,-,yes\n",
-        End::Infeasible,
-        "infeasible\nstreets 1 junctions 2 required 1 class directed\n",
-    ),
-    (
-        "e,A,B,-,-,yes\n",
-        End::Infeasible,
         "infeasible\nstreets 1 junctions 2 required 1 class directed\n",
     ),
 ];
@@ -91,31 +80,75 @@ fn run_of(
 }
 
 /// A solve of these bytes.
-fn solve(alloc: Global, table: &[u8], room: Room) -> Result<Run, AllocError> {
-    let words = ["solve", "streets.csv", "proof.txt", "-", "0"];
+fn solve(alloc: Global, table: &[u8], budget: &str, room: Room) -> Result<Run, AllocError> {
+    let words = ["solve", "streets.csv", "proof.txt", "-", budget];
     run_of(alloc, words.as_slice(), table, b"", room)
 }
 
-/// The status of a check of a proof of these bytes.
-fn check(alloc: Global, table: &[u8], proof: &[u8]) -> Result<Status, AllocError> {
+/// What a check of a proof of these bytes prints.
+fn check(alloc: Global, table: &[u8], proof: &[u8]) -> Result<Vec<u8>, AllocError> {
     let words = ["check", "streets.csv", "proof.txt"];
-    Ok(run_of(alloc, words.as_slice(), table, proof, AMPLE)?.status)
+    Ok(run_of(alloc, words.as_slice(), table, proof, AMPLE)?.text)
 }
 
 #[test]
-fn finds_what_a_check_accepts(rt: HostRuntime) -> Result<(), Fail> {
+fn finds_first_tours(rt: HostRuntime) -> Result<(), Fail> {
     let alloc = rt.alloc();
-    for (rows, end, report) in &FOUND {
+    for (rows, report) in &FIRST {
         let table = format!(in alloc; "{HEADER}{rows}")?;
-        let run = solve(alloc, table.as_bytes(), AMPLE)?;
+        let run = solve(alloc, table.as_bytes(), "0", AMPLE)?;
         assert_eq!(rt; run.text.as_slice(), report.as_bytes(), "{rows}");
-        let accepted = Status::Accepted { end: *end };
+    }
+    Ok(())
+}
+
+/// Whether a text has this part.
+fn has(text: &[u8], part: &[u8; 9]) -> bool {
+    text.windows(9).any(|piece| piece == part.as_slice())
+}
+
+#[test]
+fn finds_the_cheapest_tours(rt: HostRuntime) -> Result<(), Fail> {
+    let alloc = rt.alloc();
+    for (rows, _, text) in &CASES {
+        let Some(end) = text.strip_prefix("accepted ") else {
+            continue;
+        };
+        if end.starts_with("unfinished") {
+            continue;
+        }
+        let table = format!(in alloc; "{HEADER}{rows}")?;
+        let run = solve(alloc, table.as_bytes(), "1000", AMPLE)?;
+        let line = format!(in alloc; "{end}\n")?;
+        assert!(rt; run.text.starts_with(line.as_bytes()), "{rows}");
+        assert!(rt;
+            end == "infeasible" || has(&run.text, b" blind 0\n"),
+            "{rows}"
+        );
+        let accepted = format!(in alloc; "accepted {line}")?;
         assert_eq!(rt;
-            check(alloc, table.as_bytes(), &run.proof)?,
-            accepted,
+            check(alloc, table.as_bytes(), &run.proof)?.as_slice(),
+            accepted.as_bytes(),
             "{rows}"
         );
     }
+    Ok(())
+}
+
+#[test]
+fn tells_what_was_found(rt: HostRuntime) -> Result<(), Fail> {
+    let alloc = rt.alloc();
+    let table = format!(in alloc; "{HEADER}l,A,A,7,-,yes\n")?;
+    let run = solve(alloc, table.as_bytes(), "1000", AMPLE)?;
+    assert!(rt; run.text.ends_with(b"blind 0\nsteps 1\n0+\tl\tA\tA\t7\n"));
+    let words = ["demo", "1", "2", "1", "512"];
+    let run = run_of(alloc, words.as_slice(), b"", b"", AMPLE)?;
+    assert_eq!(rt; run.status, Status::Optimal { cost: 17 });
+    assert!(rt;
+        run.text.starts_with(b"optimal 17\nstreets 1 junctions 2 required 1 class windy\nnodes ")
+    );
+    assert!(rt; run.text.ends_with(b" blind 0\n"));
+    assert!(rt; run.proof.is_empty());
     Ok(())
 }
 
@@ -134,17 +167,9 @@ fn ring(alloc: Global) -> Result<String, AllocError> {
 fn finds_a_tour_of_a_ring(rt: HostRuntime) -> Result<(), Fail> {
     let alloc = rt.alloc();
     let table = ring(alloc)?;
-    let run = solve(alloc, table.as_bytes(), AMPLE)?;
+    let run = solve(alloc, table.as_bytes(), "0", AMPLE)?;
     assert_eq!(rt; run.status.code(), 1);
-    let status = check(alloc, table.as_bytes(), &run.proof)?;
-    assert!(rt;
-        matches!(
-            status,
-            Status::Accepted {
-                end: End::Unfinished { .. }
-            }
-        )
-    );
+    assert!(rt; check(alloc, table.as_bytes(), &run.proof)?.starts_with(b"accepted unfinished 0 "));
     Ok(())
 }
 
@@ -155,6 +180,7 @@ fn stops_where_a_sink_is_full(rt: HostRuntime) -> Result<(), Fail> {
     let run = solve(
         alloc,
         table.as_bytes(),
+        "0",
         Room {
             proof: 10,
             text: ROOM,
@@ -166,6 +192,7 @@ fn stops_where_a_sink_is_full(rt: HostRuntime) -> Result<(), Fail> {
     let run = solve(
         alloc,
         table.as_bytes(),
+        "0",
         Room {
             proof: ROOM,
             text: 0,
@@ -209,7 +236,8 @@ fn takes_no_other_words(rt: HostRuntime) -> Result<(), Fail> {
     let alloc = rt.alloc();
     for line in [
         "solve a b c",
-        "solve a b - 1",
+        "solve a b - 01",
+        "solve a b - 1000000000000000000",
         "solve a b c 0",
         "solve a a - 0",
         "solve - b - 0",
@@ -217,6 +245,9 @@ fn takes_no_other_words(rt: HostRuntime) -> Result<(), Fail> {
         "town 1 0 1",
         "town 01 2 1",
         "town 2147483648 1 1",
+        "demo 1 2 1",
+        "demo 1 21 1 0",
+        "demo 1 2 1 007",
         "info",
     ] {
         let texts: Vec<&str> = line.split(' ').collect(alloc)?;

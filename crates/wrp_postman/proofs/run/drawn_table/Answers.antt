@@ -1,6 +1,4 @@
-use Rattle.std.proofs.Common.{Result, Ok, Err, ℕ, List, IfOk, subst}
 use Rattle.wrp_report.specs.Grid.{grid_of}
-use Rattle.wrp_postman.specs.Runs.{IsCanonical}
 use Rattle.wrp_postman.proofs.Texts.{canonical_found}
 use Rattle.wrp_postman.proofs.run.drawn_table.Goals as goal
 

@@ -1,16 +1,14 @@
-use Rattle.std.proofs.Common.{◌∙◌, Some, ap, sym, subst, arith}
+use Rattle.std.proofs.Common.{◌∙◌, Some, ap, sym, arith}
 use Rattle.wrp_out.proofs.OutsideFacts.{took_nothing, took_at_most}
 use Rattle.wrp_postman.specs.declared.command.Names.{Names}
-use Rattle.wrp_postman.specs.Words.{command_in, AreInRanges}
-use Rattle.wrp_postman.specs.Runs.{Answers}
+use Rattle.wrp_postman.specs.Words.{command_in}
 use Rattle.wrp_postman.proofs.ToldStatuses.{solve_answered, check_answered}
 use Rattle.wrp_postman.proofs.run.postman.Goals as goal
 
 pub returns-in-Some-Solve-clause-answer : goal.returns-in-Some-Solve-clause-answer
 returns-in-Some-Solve-clause-answer g c =
-    solve_answered _ _ _ _ c.in-Some-Solve.field-0-3 c.run_solve.result _ _ _ _ _ _
+    solve_answered _ _ _ _ c.in-Some-Solve.budget c.run_solve.result _ _ _ _ _ _
     (ap (λ (n : Names). Some (command_in n)) (sym c.in-Some-Solve.field-0-is) ∙ c.in-Some-Solve.ensures.command)
-    (subst AreInRanges c.in-Some-Solve.field-0-is c.in-Some-Solve.ensures.ranges)
     c.run_solve.ensures.answer
 
 pub returns-in-Some-Solve-clause-taken : goal.returns-in-Some-Solve-clause-taken
