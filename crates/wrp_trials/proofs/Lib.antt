@@ -1,0 +1,3 @@
+-- Tests of points.
+mod Balances
+mod Served
