@@ -1,22 +1,29 @@
 //! The state of a search together with its log.
-ghost use Rattle.std.specs.Prelude.{◌≡◌, ◌<◌, ◌≤◌, false, true, [], length, None, Ok, IfOk, IfSome, IsNone, OnOk, OnErr};
+ghost use Rattle.std.specs.Prelude.{◌≡◌, ◌<◌, ◌≤◌, false, true, [], length, None, Ok, IfOk, IfSome, IsNone, IfErr, OnOk, OnErr};
 ghost use Rattle.wrp_log.specs.Payloads.{IsVersion, payload_limit};
 ghost use Rattle.wrp_rules.specs.Lines.{line_of};
 ghost use Rattle.wrp_rules.specs.Lists.{is_valid};
 ghost use Rattle.wrp_writer.specs.Limits.{is_writable};
 ghost use Rattle.wrp_keep.specs.Keeps.{staged, joined, is_stopped, version, IsHeld};
 ghost use Rattle.wrp_keep.specs.Appends.{AppendsTo, NeedsNoDisk, UpgradesTo};
+ghost use Rattle.wrp_disk.specs.Disks.{AtEachMoment, Lasts};
+ghost use Rattle.wrp_keep.specs.Reopens.{ReopenIs, ReopenFails, IsReopened, records_in};
+ghost use Rattle.wrp_street.specs.Canonical.{canonical_of};
+ghost use Rattle.wrp_keep.specs.Starts.{fault_of, Starts, StartFails, IsNew};
 ghost use Rattle.wrp_keep.specs.Calls.{Extends, SameAcknowledged, with_staged, Stages, Flushes, of_flush, Adds, Judges, of_add};
 
 use crate::appending::{append_line, append_to, upgrade_in};
-use crate::fault::{AddFault, FlushFault, StageFault};
+use crate::fault::{AddFault, FlushFault, ReopenFault, StageFault, StartFault};
 use crate::lines::{LineFault, join_line};
+use crate::reopening::reopened_log;
+use crate::starting::started_log;
 use std::alloc::{AllocError, Global};
 use std::marker::Model;
 use wrp_disk::Disk;
 use wrp_log::Log;
 use wrp_out::Failed;
 use wrp_rules::Record;
+use wrp_street::canonical;
 use wrp_town::Town;
 use wrp_tree::{PrepareFault, Tree};
 
@@ -70,6 +77,72 @@ impl<'t> Keep<'t> {
             log: None,
             lines: Vec::new(alloc),
             acknowledged: 0,
+        })
+    }
+
+    /// A keep whose log is new: its first payload is the table of the town.
+    ///
+    /// # Errors
+    ///
+    /// That the bytes of the disk are not a log, that the log is broken or has payloads already, or
+    /// that there is no room, in this order; that the disk failed; or want of memory.
+    pub fn start<D: Disk>(
+        alloc: Global,
+        town: &'t Town,
+        disk: &mut D,
+    ) -> Result<Keep<'t>, StartFault>
+        ensures new { IfOk result (IsNew town.now (D.meaning disk.new)) }
+
+        // The answer, what a crash leaves at any moment of the call, and what it leaves.
+        ensures starts { IfSome (D.meaning disk.old).told (λ bytes. Starts (canonical_of town.now)
+            bytes (D.meaning disk.old) (D.meaning disk.new) (fault_of result)) }
+        ensures lasts { Lasts (D.meaning disk.old) (D.meaning disk.new) }
+        ensures fails { IfErr result (StartFails (D.meaning disk.old) (D.meaning disk.new)) }
+    {
+        let table = canonical(alloc, town)?;
+        let tree = Tree::new(alloc, town)?;
+        let log = started_log(alloc, disk, &table)?;
+        Ok(Keep {
+            alloc,
+            tree,
+            log: Some(log),
+            lines: Vec::new(alloc),
+            acknowledged: 0,
+        })
+    }
+
+    /// A keep of the records of a log, whose first payload is the table of the town.
+    ///
+    /// # Errors
+    ///
+    /// That the bytes of the disk are not a log, that the log is broken or has no records, that it
+    /// is of another table, or the first bad record, in this order; that the disk failed; or want
+    /// of memory.
+    pub fn reopen<D: Disk>(
+        alloc: Global,
+        town: &'t Town,
+        disk: &mut D,
+    ) -> Result<Keep<'t>, ReopenFault>
+        ensures exact { IfSome (D.meaning disk.old).told (λ bytes. ReopenIs town.now
+            (canonical_of town.now) bytes (records_in result) (fault_of result)) }
+        ensures reopened { IfOk result (IsReopened town.now (D.meaning disk.new)) }
+        ensures told { (D.meaning disk.new).told ≡ (D.meaning disk.old).told }
+
+        // A crash at any moment of the call leaves what a crash before it leaves.
+        ensures any_moment { AtEachMoment (D.meaning disk.old).image
+            (D.meaning disk.old) (D.meaning disk.new) }
+        ensures fails { IfErr result (ReopenFails (D.meaning disk.old) (D.meaning disk.new)) }
+    {
+        let table = canonical(alloc, town)?;
+        let mut tree = Tree::new(alloc, town)?;
+        let log = reopened_log(alloc, disk, &table, &mut tree)?;
+        let acknowledged = tree.records().len() as u64;
+        Ok(Keep {
+            alloc,
+            tree,
+            log: Some(log),
+            lines: Vec::new(alloc),
+            acknowledged,
         })
     }
 

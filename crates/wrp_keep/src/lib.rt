@@ -5,8 +5,11 @@ mod appending;
 mod fault;
 mod keep;
 mod lines;
+mod reading;
+mod reopening;
+mod starting;
 #[cfg(test)]
 mod tests;
 
-pub use fault::{AddFault, FlushFault, StageFault};
+pub use fault::{AddFault, FlushFault, ReopenFault, StageFault, StartFault};
 pub use keep::Keep;

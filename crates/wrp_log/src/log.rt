@@ -243,6 +243,8 @@ impl Log {
 
         ensures lent { IfOk result (λ payload. IfSome (D.meaning disk.old).told (λ bytes.
             option_copied payload ≡ slice_get (list_of bytes) self.old.replayed)) }
+        ensures short { IfOk result (λ payload. IfSome payload
+            (λ bytes. length bytes.now ≤ payload_limit self.old.version)) }
         ensures looks { Looks (D.meaning disk.old) (D.meaning disk.new) }
         ensures failed { OnErr result
             (Rose (D.meaning disk.old).faults (D.meaning disk.new).faults) }

@@ -28,6 +28,7 @@ pub(crate) fn read_payload<D: Disk>(
         → (whole ≡ true) × (buffer.new.items ≡ payload))) }
     ensures within { IfOk result (λ whole. whole ≡ true
         → at + 5 + length buffer.new.items ≤ last) }
+    ensures short { IfOk result (λ whole. whole ≡ true → length buffer.new.items ≤ most) }
     ensures capacity { vec_capacity buffer.old ≤ vec_capacity buffer.new }
     ensures failed { OnErr result (Rose (D.meaning disk.old).faults (D.meaning disk.new).faults) }
 {
