@@ -1,6 +1,6 @@
 -- The only point of a box.
-use Rattle.std.proofs.Common.{◌≡◌, ℕ, ◌<◌, ◌≤◌, true, ℤ, pos, ◌≤ℤ◌, unsigned_abs, List, length, get_or, Option, None, Some, ap, sym, ◌∙◌, subst, arith}
-use Rattle.std.specs.Prelude.{slice_index, slice_index_or, IfSome}
+use Rattle.std.proofs.Common.{◌≡◌, ℕ, ◌<◌, ◌≤◌, ℤ, pos, ◌≤ℤ◌, unsigned_abs, List, length, get_or, ap, sym, ◌∙◌, subst, arith}
+use Rattle.std.specs.Prelude.{slice_index, slice_index_or}
 use Rattle.std.proofs.Math.ListN.{get_or-map}
 use Rattle.std.proofs.lemmas.List.{length-map}
 use Rattle.wrp_sums.proofs.Integers.{linear}
@@ -16,10 +16,7 @@ use Rattle.wrp_odd.specs.Points.{HasNumbers, denominator_of, numbers_of}
 use Rattle.wrp_progress.specs.Progress.{IsOnePoint}
 use Rattle.wrp_progress.proofs.OnePoint.{row_met}
 use Rattle.wrp_box.specs.Branching.{HoldOne}
-use Rattle.wrp_rules.specs.declared.record.Record.{Record}
-use Rattle.wrp_rules.specs.declared.record.Record.TheVariants as records
-use Rattle.wrp_writer.specs.Limits.{is_writable}
-use Rattle.wrp_box.specs.Points.{alone, IsLowest, pairs_of, IsPointRecord}
+use Rattle.wrp_box.specs.Points.{alone, IsLowest}
 use Rattle.wrp_box.specs.Relaxing.{IsPointIn}
 use Rattle.wrp_box.proofs.Relaxed.{get_or_any}
 
@@ -77,12 +74,3 @@ module _ (pool : RowPool) (bounds : Bounds) (point : Point) (lowest : IsLowest b
     numbers = lowest_numbers bounds point lowest pool.town within one;
     of_node = subst (λ (e : ℕ). IsPointOf pool.town s.rows node e (numbers_of point)) (sym (den_is bounds point lowest)) over_one;
   }
-
--- ---- the record of a point
-
-pub point_written : (o : Option Record) (node den : ℕ) (numbers : List (ℕ × ℕ)) (point : Point) → IfSome o (λ item. (item ≡ records.Point node den numbers) × (is_writable (records.Point node den numbers) ≡ true)) → den ≡ denominator_of point → numbers ≡ pairs_of point → IfSome o (IsPointRecord node point)
-point_written None node den numbers point made is_den are = record {}
-point_written (Some item) node den numbers point made is_den are = record {
-  is = made.0 ∙ ap (λ (d : ℕ). records.Point node d numbers) is_den ∙ ap (records.Point node (denominator_of point)) are;
-  writable = ap is_writable made.0 ∙ made.1;
-}

@@ -196,3 +196,9 @@ empty_ascends pool pivots mult taken lp is bounds relaxed =
     let ends = subst (λ (a : Lp). IsRelaxed pool bounds pivots a) is relaxed in
     subst (λ (m : List (ℕ × ℤ)). AllPairs (λ p q. p.0 < q.0) m) (sym ends.end.multipliers)
     (ascending_mult (length pool.rows) _)
+
+-- ---- the point of an optimum is one of the town
+
+pub optimal_point : (pool : RowPool) (pivots : ℕ) (point : Point) (mult : List (ℕ × ℤ)) (table : Tableau) (taken : List (ℕ × ℕ)) (lp : Lp) → lp ≡ lps.Optimal point mult table taken → (bounds : Bounds) → IsRelaxed pool bounds pivots lp → IsPoint pool.town point
+optimal_point pool pivots point mult table taken lp is bounds relaxed =
+    (subst (λ (a : Lp). IsRelaxed pool bounds pivots a) is relaxed).shows.0

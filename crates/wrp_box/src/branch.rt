@@ -1,8 +1,8 @@
 //! Where the box of a node is split.
-ghost use Rattle.std.specs.Prelude.{◌≡◌, ◌⊎◌, ◌<◌, None, IfSome, length};
+ghost use Rattle.std.specs.Prelude.{◌≡◌, ◌⊎◌, ℕ, ◌*◌, ◌<◌, None, IfSome, length};
 ghost use Rattle.wrp_rows.specs.Points.{AreBounds, IsPoint};
 ghost use Rattle.wrp_odd.specs.Points.{HasNumbers};
-ghost use Rattle.wrp_box.specs.Branching.{IsBranch, HoldOne};
+ghost use Rattle.wrp_box.specs.Branching.{IsBranch, HoldOne, IsWithin, IsPartOf, PartsAt, PartsPoint, HasQuotients};
 
 use wrp_odd::denominator;
 use wrp_rows::{Bounds, Point};
@@ -29,11 +29,13 @@ pub fn branch_of(town: &Town, bounds: &Bounds, point: Option<&Point>) -> Option<
     requires bounds { AreBounds town.now bounds.now }
     requires point { IfSome point (λ p. IsPoint town.now p.now) }
     requires numbers { IfSome point (λ p. HasNumbers p.now) }
+    requires within { IfSome point (λ p. IsWithin town.now bounds.now p.now) }
     ensures some { IfSome result (IsBranch town.now bounds.now) }
     ensures none { result ≡ None → HoldOne town.now bounds.now }
+    ensures parts { IfSome point.entry (λ p. PartsPoint town.now result p.now) }
 {
     let parting = match point {
-        Some(point) => parting(town, bounds, point),
+        Some(point) => parting(town, point),
         None => None,
     };
     match parting {
@@ -43,15 +45,15 @@ pub fn branch_of(town: &Town, bounds: &Bounds, point: Option<&Point>) -> Option<
 }
 
 /// The branch of most worth at an arc whose number isn't whole.
-fn parting(town: &Town, bounds: &Bounds, point: &Point) -> Option<Choice>
-    requires bounds { AreBounds town.now bounds.now }
+fn parting(town: &Town, point: &Point) -> Option<Choice>
     requires point { IsPoint town.now point.now }
-    requires numbers { HasNumbers point.now }
-    ensures { IfSome result (λ choice. IsBranch town.now bounds.now choice.branch) }
+    requires small { HasQuotients point.now }
+    ensures some { IfSome result (λ choice. PartsAt town.now point.now choice.branch) }
+    ensures none { result ≡ None → (arc : ℕ) → IsPartOf town.now point.now arc → ⊥ }
 {
     let mut best: Option<Choice> = None;
-    for arc in 0..bounds.lo.len() as u32 {
-        let other = parting_at(town, bounds, point, arc);
+    for arc in 0..2 * town.streets.len() as u32 {
+        let other = parting_at(town, point, arc);
         best = better(best, other);
     }
     best
@@ -59,7 +61,8 @@ fn parting(town: &Town, bounds: &Bounds, point: &Point) -> Option<Choice>
 
 /// The better one of two choices.
 fn better(first: Option<Choice>, second: Option<Choice>) -> Option<Choice>
-    ensures { (result ≡ first) ⊎ (result ≡ second) }
+    ensures either { (result ≡ first) ⊎ (result ≡ second) }
+    ensures none { result ≡ None → (first ≡ None) × (second ≡ None) }
 {
     match (first, second) {
         (Some(one), Some(two)) if two.worth > one.worth => Some(two),
@@ -69,22 +72,20 @@ fn better(first: Option<Choice>, second: Option<Choice>) -> Option<Choice>
 }
 
 /// The branch at an arc whose number isn't whole.
-fn parting_at(town: &Town, bounds: &Bounds, point: &Point, arc: u32) -> Option<Choice>
-    requires bounds { AreBounds town.now bounds.now }
+fn parting_at(town: &Town, point: &Point, arc: u32) -> Option<Choice>
     requires point { IsPoint town.now point.now }
-    requires numbers { HasNumbers point.now }
-    requires arc { arc < length bounds.now.lo }
-    ensures { IfSome result (λ choice. IsBranch town.now bounds.now choice.branch) }
+    requires small { HasQuotients point.now }
+    requires arc { arc < 2 * length town.now.streets }
+    ensures some { IfSome result (λ choice. PartsAt town.now point.now choice.branch) }
+    ensures none { result ≡ None → IsPartOf town.now point.now arc → ⊥ }
 {
     let den = denominator(point);
     let number = point.at.as_slice()[arc as usize].unsigned_abs();
     let part = number % den;
-    let k = number / den;
-    let lo = u128::from(bounds.lo.as_slice()[arc as usize]);
-    let hi = u128::from(bounds.hi.as_slice()[arc as usize]);
-    if part == 0 || k < lo || k >= hi {
+    if part == 0 {
         return None;
     }
+    let k = number / den;
     let cost = u128::from(town.cost(arc).unwrap_or(0));
     Some(Choice {
         worth: part.min(den - part) * cost,

@@ -1,13 +1,12 @@
 //! Records of what a relaxation shows of its node.
-ghost use Rattle.std.specs.Prelude.{◌≡◌, ℕ, ◌<◌, true, pos, ◌≤ℤ◌, length, IfOk, OnOk, IfSome};
+ghost use Rattle.std.specs.Prelude.{◌≡◌, ℕ, ◌<◌, ◌^◌, pos, ◌≤ℤ◌, length, IfOk, OnOk};
 ghost use Rattle.wrp_town.specs.declared.town.Town.{Town};
 ghost use Rattle.wrp_rows.specs.declared.point.Bounds.{Bounds};
 ghost use Rattle.wrp_rows.specs.Pools.{RowPool};
 ghost use Rattle.wrp_rows.specs.Points.{IsPoint, most_denominator};
-ghost use Rattle.wrp_writer.specs.Limits.{is_writable};
 ghost use Rattle.wrp_odd.specs.Points.{HasNumbers, denominator_of, numbers_of};
 ghost use Rattle.wrp_box.specs.Relaxing.{IsRelaxed};
-ghost use Rattle.wrp_box.specs.Records.{IsShownRecord};
+ghost use Rattle.wrp_box.specs.Records.{IsShown};
 ghost use Rattle.wrp_box.specs.Points.{IsPointRecord, with_number};
 
 use std::alloc::{AllocError, Global};
@@ -17,59 +16,59 @@ use wrp_odd::denominator;
 use wrp_rows::Point;
 use wrp_rules::Record;
 use wrp_town::List;
-use wrp_writer::writable;
 
 /// The record of what an answer shows of its node: a bound, or that no tour is within. None where it
-/// ended early, or where its numbers fit no record.
+/// ended early.
 ///
 /// # Errors
 ///
 /// Want of memory alone.
 pub fn shown_record(alloc: Global, node: u64, lp: &Lp) -> Result<Option<Record>, AllocError>
-    requires { (pool : RowPool) × (bounds : Bounds) × (pivots : ℕ)
+    requires relaxed { (pool : RowPool) × (bounds : Bounds) × (pivots : ℕ)
         × IsRelaxed pool bounds pivots lp.now }
-    ensures { IfOk result (λ item. IfSome item (IsShownRecord node)) }
+    requires small { node < 2 ^ 63 }
+    ensures { IfOk result (IsShown node lp.now) }
 {
-    let item = match lp {
+    match lp {
         Lp::Optimal { point, mult, .. } => {
             let fitted = to_mult(alloc, point.den, mult.as_slice())?;
-            Record::Bound {
+            Ok(Some(Record::Bound {
                 node,
                 den: fitted.den,
                 mult: fitted.mult,
-            }
+            }))
         }
         Lp::Empty { mult, .. } => {
             let fitted = to_mult(alloc, 1, mult.as_slice())?;
-            Record::Empty {
+            Ok(Some(Record::Empty {
                 node,
                 mult: fitted.mult,
-            }
+            }))
         }
-        Lp::Wide { .. } | Lp::Pivots { .. } => return Ok(None),
-    };
-    Ok(where_writable(item))
+        Lp::Wide { .. } | Lp::Pivots { .. } => Ok(None),
+    }
 }
 
-/// The record of a point of a node. None where it can't be written.
+/// The record of a point of a node.
 ///
 /// # Errors
 ///
 /// Want of memory alone.
-pub fn point_record(alloc: Global, node: u64, point: &Point) -> Result<Option<Record>, AllocError>
+pub fn point_record(alloc: Global, node: u64, point: &Point) -> Result<Record, AllocError>
     requires point { (town : Town) × IsPoint town point.now }
     requires numbers { HasNumbers point.now }
-    ensures { IfOk result (λ item. IfSome item (IsPointRecord node point.now)) }
+    requires small { node < 2 ^ 63 }
+    ensures { IfOk result (IsPointRecord node point.now) }
 {
     let mut numbers = List::new(alloc);
     for arc in 0..point.at.len() as u32 {
         add_number(&mut numbers, arc, number_of(point, arc))?;
     }
-    Ok(where_writable(Record::Point {
+    Ok(Record::Point {
         node,
         den: den_of(point),
         numbers,
-    }))
+    })
 }
 
 /// Adds an arc and its number, where that isn't 0.
@@ -97,11 +96,4 @@ fn den_of(point: &Point) -> u64
     ensures { result ≡ denominator_of point.now }
 {
     denominator(point) as u64
-}
-
-/// The record, where it may be written.
-fn where_writable(item: Record) -> Option<Record>
-    ensures { IfSome result (λ same. (same ≡ item) × (is_writable item ≡ true)) }
-{
-    if writable(&item) { Some(item) } else { None }
 }

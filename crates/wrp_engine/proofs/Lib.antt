@@ -1,9 +1,16 @@
 -- Laws of searches.
+pub mod Adding
 pub mod Advancing
 pub mod Broken
+pub mod Counting
+pub mod Cutting
 pub mod Ending
 pub mod FewUses
+pub mod Finishing
+pub mod Forcing
 pub mod Going
+pub mod Leaving
+pub mod Looking
 pub mod Lowest
 pub mod OfferedTours
 pub mod OnlyPoints
@@ -11,7 +18,10 @@ pub mod Relaxing
 pub mod Separating
 pub mod Settling
 pub mod Shutting
+pub mod Showing
 pub mod Splitting
 pub mod Staging
 pub mod Standing
+pub mod Turning
+pub mod WholePoints
 pub mod Working

@@ -1,8 +1,11 @@
 pub mod Searches
 pub mod Offers
+pub mod Additions
 pub mod Found
 pub mod Faults
 pub mod Splits
+pub mod Turns
+pub mod Forced
 pub mod Closing
 pub mod Desks
 pub mod Sights

@@ -5,11 +5,12 @@ ghost use Rattle.wrp_tour.specs.Tours.{HasTour};
 ghost use Rattle.wrp_box.specs.Branching.{HoldOne};
 ghost use Rattle.wrp_engine.specs.Searches.{search_of, IsGoing, Leaves, IsOpenAt, IsDoneAt};
 ghost use Rattle.wrp_engine.specs.Desks.{IsDesk, IsDeskOf};
+ghost use Rattle.wrp_engine.specs.Additions.{Adds};
 ghost use Rattle.wrp_engine.specs.Closing.{IsOnlyPoint, EmptiesNode, IsEnding, IsConn, apart_of};
 
 use crate::desk::Desk;
 use crate::fault::SearchFault;
-use crate::offer::{add, tell};
+use crate::offer::{add, offer};
 use crate::tours::offer_tour;
 use std::alloc::Global;
 use wrp_box::{Single, only_point};
@@ -39,6 +40,7 @@ pub(crate) fn close<D: Disk>(
     ensures leaves { Leaves (search_of keep.old (D.meaning disk.old))
         (search_of keep.new (D.meaning disk.new)) result }
     ensures untouched { keep.old.log ≡ None → disk.new ≡ disk.old }
+    ensures adds { Adds 2 1 keep.old keep.new }
     ensures done { OnOk result (IsDoneAt keep.new node) }
     ensures desk { IsDesk keep.old.town desk.new }
 {
@@ -70,6 +72,7 @@ fn close_empty<D: Disk>(
     ensures leaves { Leaves (search_of keep.old (D.meaning disk.old))
         (search_of keep.new (D.meaning disk.new)) result }
     ensures untouched { keep.old.log ≡ None → disk.new ≡ disk.old }
+    ensures adds { Adds 1 0 keep.old keep.new }
     ensures done { OnOk result (IsDoneAt keep.new node) }
 {
     let mult = List::from_vec(vec![in alloc; (row, 1); 1]?);
@@ -94,6 +97,7 @@ fn close_met<D: Disk>(
     ensures leaves { Leaves (search_of keep.old (D.meaning disk.old))
         (search_of keep.new (D.meaning disk.new)) result }
     ensures untouched { keep.old.log ≡ None → disk.new ≡ disk.old }
+    ensures adds { Adds 2 1 keep.old keep.new }
     ensures done { OnOk result (IsDoneAt keep.new node) }
 {
     match violated(alloc, desk.parts, keep.tree().rows(), point)? {
@@ -121,10 +125,12 @@ fn close_by_tour<D: Disk>(
     ensures leaves { Leaves (search_of keep.old (D.meaning disk.old))
         (search_of keep.new (D.meaning disk.new)) result }
     ensures untouched { keep.old.log ≡ None → disk.new ≡ disk.old }
+    ensures adds { Adds 2 1 keep.old keep.new }
     ensures done { OnOk result (IsDoneAt keep.new node) }
 {
     offer_tour(keep, disk, steps)?;
-    tell(keep, disk, Some(bare_bound(alloc, node)))
+    offer(keep, disk, bare_bound(alloc, node))?;
+    Ok(())
 }
 
 /// The bound of no multipliers.

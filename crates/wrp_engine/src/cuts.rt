@@ -1,9 +1,12 @@
 //! Which cuts a round adds.
-ghost use Rattle.std.specs.Prelude.{IfOk, OnOk};
+ghost use Rattle.std.specs.Prelude.{◌≡◌, ◌+◌, ◌≤◌, true, [], length, IfOk, OnOk};
 ghost use Rattle.wrp_parts.specs.RequiredParts.{AreParts};
-ghost use Rattle.wrp_round.specs.Optima.{IsOptimumOver};
-ghost use Rattle.wrp_engine.specs.Searches.{AreWritable};
-ghost use Rattle.wrp_engine.specs.Cuts.{AreRowsOfList, IsServing, IsServed, AreBrokenOdds};
+ghost use Rattle.wrp_rows.specs.declared.point.Point.{Point as APoint};
+ghost use Rattle.wrp_minodd.specs.Answers.{MeetsOdd};
+ghost use Rattle.wrp_conn.specs.Conns.{IsConnected};
+ghost use Rattle.wrp_round.specs.Optima.{IsOptimal, IsOptimumOver, point_of};
+ghost use Rattle.wrp_licence.specs.Causes.{most_round_cuts};
+ghost use Rattle.wrp_engine.specs.Cuts.{IsServing, IsServed, AreUseful, AreOddCuts, AreBrokenOdds, MeetsNamed, IsUnbroken};
 
 use std::alloc::{AllocError, Global};
 use wrp_conn::all_violated;
@@ -42,9 +45,12 @@ pub(crate) fn cuts_of(
     round: u32,
 ) -> Result<Vec<Record>, AllocError>
     requires parts { AreParts rows.now.town parts.now.count parts.now.of }
-    requires rows { AreRowsOfList rows.now }
     requires lp { IsServed rows.now chosen.now lp.now }
-    ensures { IfOk result (λ cuts. AreWritable cuts.items) }
+    ensures useful { IfOk result (λ cuts. AreUseful rows.now (point_of lp.now) cuts.items) }
+    ensures few { IfOk result (λ cuts. length cuts.items ≤ most_round_cuts) }
+    ensures none { IfOk result (λ cuts. cuts.items ≡ [] → IsOptimal lp.now
+        → IsUnbroken rows.now chosen.now round lp.now) }
+    ensures idle { (IsOptimal lp.now → ⊥) → IfOk result (λ cuts. cuts.items ≡ []) }
 {
     let Lp::Optimal { point, .. } = lp else {
         return Ok(Vec::new(alloc));
@@ -71,7 +77,7 @@ fn kc_cuts(
 ) -> Result<Vec<Record>, AllocError>
     requires parts { AreParts rows.now.town parts.now.count parts.now.of }
     requires point { IsServing rows.now.town point.now }
-    ensures { IfOk result (λ cuts. AreWritable cuts.items) }
+    ensures { IfOk result (λ cuts. AreUseful rows.now point.now cuts.items) }
 {
     let mut cuts = kc_candidates(alloc, parts, rows, point)?;
     cuts.truncate(MOST_KC);
@@ -79,7 +85,9 @@ fn kc_cuts(
 }
 
 /// Whether a round that has found so many cuts looks for roundings.
-fn wants_roundings(round: u32, found: usize) -> bool {
+fn wants_roundings(round: u32, found: usize) -> bool
+    ensures { found ≡ 0 → result ≡ true }
+{
     found == 0 || (round > 1 && found < ENOUGH_CUTS)
 }
 
@@ -93,7 +101,9 @@ fn exact_cuts(
 ) -> Result<Vec<Record>, AllocError>
     requires parts { AreParts rows.now.town parts.now.count parts.now.of }
     requires point { IsServing rows.now.town point.now }
-    ensures { IfOk result (λ cuts. AreWritable cuts.items) }
+    ensures useful { IfOk result (λ cuts. AreUseful rows.now point.now cuts.items) }
+    ensures conns { IfOk result (λ cuts. cuts.items ≡ [] → IsConnected rows.now.town point.now) }
+    ensures odds { IfOk result (λ cuts. cuts.items ≡ [] → MeetsOdd rows.now.town point.now) }
 {
     let mut cuts = all_violated(alloc, parts, rows, point)?;
     if round <= LAST_OPEN_ROUND {
@@ -114,8 +124,9 @@ fn add_odd_sets(
     cuts: &mut Vec<Record>,
 ) -> Result<(), AllocError>
     requires point { IsServing rows.now.town point.now }
-    requires writable { AreWritable cuts.old.items }
-    ensures { OnOk result (AreWritable cuts.new.items) }
+    requires useful { AreUseful rows.now point.now cuts.old.items }
+    ensures useful { OnOk result (AreUseful rows.now point.now cuts.new.items) }
+    ensures odds { OnOk result (cuts.new.items ≡ [] → MeetsOdd rows.now.town point.now) }
 {
     let mut found = broken_odd_sets(alloc, rows, point)?;
     if round <= LAST_OPEN_ROUND {
@@ -132,9 +143,12 @@ fn add_forms(
     found: Vec<Record>,
     cuts: &mut Vec<Record>,
 ) -> Result<(), AllocError>
-    requires found { AreBrokenOdds rows.now.town found.items }
-    requires writable { AreWritable cuts.old.items }
-    ensures { OnOk result (AreWritable cuts.new.items) }
+    requires { AreOddCuts rows.now.town found.items }
+    ensures useful { (point : APoint) → AreBrokenOdds rows.now.town point found.items
+        → AreUseful rows.now point cuts.old.items
+        → OnOk result (AreUseful rows.now point cuts.new.items) }
+    ensures long { OnOk result (length cuts.new.items
+        ≡ length cuts.old.items + length found.items) }
 {
     for item in found {
         cuts.push(round_of_odd(alloc, rows, item)?)?;
@@ -150,10 +164,11 @@ fn add_roundings(
     lp: &Lp,
     cuts: &mut Vec<Record>,
 ) -> Result<(), AllocError>
-    requires rows { AreRowsOfList rows.now }
     requires optimum { IsOptimumOver rows.now chosen.now lp.now }
-    requires writable { AreWritable cuts.old.items }
-    ensures { OnOk result (AreWritable cuts.new.items) }
+    requires useful { AreUseful rows.now (point_of lp.now) cuts.old.items }
+    ensures useful { OnOk result (AreUseful rows.now (point_of lp.now) cuts.new.items) }
+    ensures old { OnOk result (cuts.new.items ≡ [] → cuts.old.items ≡ []) }
+    ensures named { OnOk result (cuts.new.items ≡ [] → MeetsNamed rows.now chosen.now lp.now) }
 {
     let mut found = round_candidates(alloc, rows, chosen, lp)?;
     found.truncate(MOST_ROUNDINGS);

@@ -4,13 +4,16 @@
 #![tactic(auto)]
 
 mod close;
+mod cut;
 mod cuts;
 mod desk;
 mod fault;
 mod found;
+mod left;
 mod offer;
 mod rounds;
 mod searching;
+mod show;
 mod sight;
 mod split;
 #[cfg(test)]

@@ -3,7 +3,7 @@ ghost use Rattle.std.specs.Prelude.{◌≡◌, true, None, [], IfOk, IfSome, OnO
 ghost use Rattle.wrp_writer.specs.Limits.{is_writable};
 ghost use Rattle.wrp_keep.specs.Keeps.{broken_by, staged};
 ghost use Rattle.wrp_engine.specs.Searches.{search_of, IsGoing, Leaves};
-ghost use Rattle.wrp_engine.specs.Offers.{Offers, IsOffered, Joins};
+ghost use Rattle.wrp_engine.specs.Offers.{Offers, Joins, AddsAtMost, AddsAtMostSome, OffersSome};
 
 use crate::fault::SearchFault;
 use wrp_disk::Disk;
@@ -23,6 +23,7 @@ pub(crate) fn offer<D: Disk>(
         (search_of keep.new (D.meaning disk.new)) result }
     ensures untouched { keep.old.log ≡ None → disk.new ≡ disk.old }
     ensures offers { IfOk result (Offers item keep.old keep.new) }
+    ensures at_most { AddsAtMost item keep.old keep.new }
 {
     match keep.stage(item) {
         Ok(()) => Ok(true),
@@ -45,6 +46,7 @@ fn stage_alone<D: Disk>(
         (search_of keep.new (D.meaning disk.new)) result }
     ensures untouched { keep.old.log ≡ None → disk.new ≡ disk.old }
     ensures offers { IfOk result (Offers item keep.old keep.new) }
+    ensures at_most { AddsAtMost item keep.old keep.new }
 {
     settle(keep, disk)?;
     match keep.stage(item) {
@@ -80,26 +82,28 @@ pub(crate) fn add<D: Disk>(
         (search_of keep.new (D.meaning disk.new)) result }
     ensures untouched { keep.old.log ≡ None → disk.new ≡ disk.old }
     ensures joins { OnOk result (Joins item keep.old keep.new) }
+    ensures at_most { AddsAtMost item keep.old keep.new }
 {
     offer(keep, disk, item)?;
     Ok(())
 }
 
-/// Offers a record, where there is one.
+/// Offers a record, where there is one, and tells whether it joined the list.
 pub(crate) fn tell<D: Disk>(
     keep: &mut Keep<'_>,
     disk: &mut D,
     item: Option<Record>,
-) -> Result<(), SearchFault>
+) -> Result<bool, SearchFault>
     requires going { IsGoing (search_of keep.old (D.meaning disk.old)) }
     requires writable { IfSome item (λ r. is_writable r ≡ true) }
     ensures leaves { Leaves (search_of keep.old (D.meaning disk.old))
         (search_of keep.new (D.meaning disk.new)) result }
     ensures untouched { keep.old.log ≡ None → disk.new ≡ disk.old }
-    ensures offered { OnOk result (IfSome item (λ r. IsOffered r keep.old keep.new)) }
+    ensures offers { IfOk result (OffersSome item keep.old keep.new) }
+    ensures at_most { AddsAtMostSome item keep.old keep.new }
 {
-    if let Some(item) = item {
-        offer(keep, disk, item)?;
+    match item {
+        Some(item) => offer(keep, disk, item),
+        None => Ok(false),
     }
-    Ok(())
 }

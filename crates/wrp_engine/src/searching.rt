@@ -1,5 +1,5 @@
 //! The search for the cheapest tour.
-ghost use Rattle.std.specs.Prelude.{◌≡◌, true, None, [], IsSome, IfOk, OnOk};
+ghost use Rattle.std.specs.Prelude.{◌≡◌, ◌≤◌, ◌+◌, ◌*◌, true, None, [], IsSome, IfOk, OnOk};
 ghost use Rattle.wrp_rules.specs.Nodes.{standing};
 ghost use Rattle.wrp_rules.specs.Lists.{is_valid};
 ghost use Rattle.wrp_parts.specs.RequiredParts.{AreParts};
@@ -7,6 +7,8 @@ ghost use Rattle.wrp_keep.specs.Keeps.{staged};
 ghost use Rattle.wrp_tour.specs.Tours.{HasTour};
 ghost use Rattle.wrp_engine.specs.Searches.{search_of, IsGoing, Leaves, now};
 ghost use Rattle.wrp_engine.specs.Desks.{IsDesk};
+ghost use Rattle.wrp_engine.specs.Additions.{Adds};
+ghost use Rattle.wrp_engine.specs.Forced.{AddsForced, above_done, EndsOptimal};
 ghost use Rattle.wrp_engine.specs.Found.{IsFound, HasWorked, FindsSince};
 
 use crate::desk::Desk;
@@ -22,7 +24,8 @@ use wrp_parts::{Parts, required_parts};
 use wrp_tree::Tree;
 
 /// Searches for the cheapest tour of a town that has one, until it is found and proved, or so many
-/// nodes more are done. The list of the keep goes on, and what was staged is acknowledged.
+/// nodes more are done. The list of the keep goes on, and what was staged is acknowledged. A budget
+/// of `2 * (m + 1)^a`, for m demands and a legal arcs, is never spent.
 ///
 /// # Errors
 ///
@@ -41,7 +44,9 @@ pub fn search<D: Disk>(
     ensures leaves { Leaves (search_of keep.old (D.meaning disk.old))
         (search_of keep.new (D.meaning disk.new)) result }
     ensures untouched { keep.old.log ≡ None → disk.new ≡ disk.old }
+    ensures forced { AddsForced budget keep.old keep.new }
     ensures found { IfOk result (IsFound budget keep.old keep.new) }
+    ensures ends { above_done keep.old.town ≤ budget → IfOk result EndsOptimal }
     ensures settled { OnOk result (staged keep.new ≡ []) }
 {
     let before = keep.tree().done();
@@ -67,6 +72,7 @@ fn work<D: Disk>(
     ensures leaves { Leaves (search_of keep.old (D.meaning disk.old))
         (search_of keep.new (D.meaning disk.new)) result }
     ensures untouched { keep.old.log ≡ None → disk.new ≡ disk.old }
+    ensures adds { Adds (4 * budget + 1) (2 * budget + 1) keep.old keep.new }
     ensures upper { OnOk result (IsSome (now keep.new).upper) }
     ensures worked { OnOk result (HasWorked budget keep.old keep.new) }
     ensures settled { OnOk result (staged keep.new ≡ []) }
@@ -91,6 +97,7 @@ fn turns<D: Disk>(
     ensures leaves { Leaves (search_of keep.old (D.meaning disk.old))
         (search_of keep.new (D.meaning disk.new)) result }
     ensures untouched { keep.old.log ≡ None → disk.new ≡ disk.old }
+    ensures adds { Adds (4 * budget) (2 * budget) keep.old keep.new }
     ensures worked { OnOk result (HasWorked budget keep.old keep.new) }
     ensures settled { OnOk result (staged keep.new ≡ []) }
 {

@@ -1,6 +1,5 @@
 //! What a round sees of a node, before it changes the list.
-ghost use Rattle.std.specs.Prelude.{◌≡◌, IfOk};
-ghost use Rattle.wrp_round.specs.Optima.{point_of};
+ghost use Rattle.std.specs.Prelude.{◌≡◌, ◌<◌, ◌^◌, IfOk};
 ghost use Rattle.wrp_engine.specs.Desks.{IsDeskOf};
 ghost use Rattle.wrp_engine.specs.Sights.{IsSight, shown_point};
 
@@ -34,8 +33,9 @@ pub(crate) fn look(
     node: u64,
     round: u32,
 ) -> Result<Sight, AllocError>
-    requires { IsDeskOf tree.now.town tree.now.records node desk.now }
-    ensures { IfOk result (IsSight tree.now.town) }
+    requires desk { IsDeskOf tree.now.town tree.now.records node desk.now }
+    requires small { node < 2 ^ 63 }
+    ensures { IfOk result (IsSight tree.now.town tree.now.records node round) }
 {
     let rows = tree.rows();
     let chosen = all_rows(alloc, rows)?;

@@ -5,7 +5,7 @@ ghost use Rattle.wrp_parts.specs.RequiredParts.{AreParts};
 ghost use Rattle.wrp_keep.specs.Keeps.{staged};
 ghost use Rattle.wrp_tour.specs.Tours.{HasTour, IsLeanTour};
 ghost use Rattle.wrp_engine.specs.Searches.{search_of, IsGoing, Leaves, now};
-ghost use Rattle.wrp_engine.specs.Offers.{HasUpper};
+ghost use Rattle.wrp_engine.specs.Offers.{HasUpper, AddsTourAtMost};
 
 use crate::fault::SearchFault;
 use crate::offer::{offer, settle};
@@ -29,6 +29,7 @@ pub(crate) fn offer_tour<D: Disk>(
     ensures leaves { Leaves (search_of keep.old (D.meaning disk.old))
         (search_of keep.new (D.meaning disk.new)) result }
     ensures untouched { keep.old.log ≡ None → disk.new ≡ disk.old }
+    ensures adds { AddsTourAtMost keep.old keep.new }
     ensures upper { OnOk result (HasUpper (walk_cost_of keep.old.town steps) keep.new) }
 {
     let cost = walk_cost(keep.tree().rows().town(), steps.as_slice()).unwrap_or(0);
@@ -52,6 +53,7 @@ pub(crate) fn begin<D: Disk>(
     ensures leaves { Leaves (search_of keep.old (D.meaning disk.old))
         (search_of keep.new (D.meaning disk.new)) result }
     ensures untouched { keep.old.log ≡ None → disk.new ≡ disk.old }
+    ensures adds { AddsTourAtMost keep.old keep.new }
     ensures upper { OnOk result (IsSome (now keep.new).upper) }
     ensures settled { OnOk result (staged keep.new ≡ []) }
 {
@@ -74,6 +76,7 @@ fn settle_tour<D: Disk>(
     ensures leaves { Leaves (search_of keep.old (D.meaning disk.old))
         (search_of keep.new (D.meaning disk.new)) result }
     ensures untouched { keep.old.log ≡ None → disk.new ≡ disk.old }
+    ensures adds { AddsTourAtMost keep.old keep.new }
     ensures upper { OnOk result (IsSome (now keep.new).upper) }
     ensures settled { OnOk result (staged keep.new ≡ []) }
 {

@@ -20,8 +20,9 @@ use Rattle.wrp_lp.specs.Programs.{denominator_of}
 use Rattle.wrp_lp.specs.Answers.{relaxed, steps_of, EndsAt, IsRunWithin}
 use Rattle.wrp_bound.specs.Mults.{FitABound}
 use Rattle.wrp_box.specs.Relaxing.{all_rows, IsRelaxed}
+use Rattle.wrp_box.specs.Records.{FitsNone}
 use Rattle.wrp_licence.specs.Runs.{row_numbers, start_at, most_pivots, IsRunAt, end_at, IsEndedRun}
-use Rattle.wrp_licence.specs.Hard.{EndsHard, IsHard, FitsNone}
+use Rattle.wrp_licence.specs.Hard.{EndsHard, IsHard}
 use Rattle.wrp_licence.proofs.Starts.{sound_at}
 use Rattle.wrp_licence.proofs.Same.{same_numbers, same_start, start_kept}
 

@@ -6,8 +6,6 @@ pub mod Ending
 pub mod Rounded
 pub mod PointNumbers
 pub mod PointRules
-pub mod Writable
-pub mod Fitting
 pub mod Values
 pub mod Offering
 pub mod CutCauses

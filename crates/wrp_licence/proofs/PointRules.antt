@@ -38,8 +38,9 @@ use Rattle.wrp_progress.proofs.Branching.{none_broken}
 use Rattle.wrp_progress.proofs.Growing.{standing_records}
 use Rattle.wrp_progress.proofs.Meeting.{balances, services}
 use Rattle.wrp_box.specs.Points.{pairs_of, IsPointRecord}
+use Rattle.wrp_box.specs.Branching.{IsPart}
 use Rattle.wrp_box.proofs.Relaxed.{below_range}
-use Rattle.wrp_licence.specs.Licences.{IsPart, IsLicensed, IsExactPoint}
+use Rattle.wrp_licence.specs.Licences.{IsLicensed, IsExactPoint}
 use Rattle.wrp_licence.proofs.PointNumbers.{number_of_pairs, pairs_legal}
 
 sum_by_same : (f g : ℕ → ℕ) → ((a : ℕ) → f a ≡ g a) → (xs : List ℕ) → sum_by f xs ≡ sum_by g xs
@@ -103,7 +104,7 @@ module _ (town : Town) (x : ℕ → ℕ) (e : ℕ) (numbers : List (ℕ × ℕ))
       all_from_members (λ demand. nat_le e (sum_by (number_at numbers) (filter (is_legal town) demand))) (demands town)
       (λ demand inside. le-leb e (sum_by (number_at numbers) (filter (is_legal town) demand)) (enough demand inside (meets demand inside)))
 
-  price_is : price_of town e numbers ≡ price town e x
+  pub price_is : price_of town e numbers ≡ price town e x
   price_is =
       ap (λ (z : ℤ). ceil_div z e)
       (ap pos (sum_by_same (λ arc. cost_or_zero town arc * number_at numbers arc) (λ arc. cost_or_zero town arc * x arc) (λ arc. ap (λ (n : ℕ). cost_or_zero town arc * n) (same arc)) (legal_arcs town))
@@ -160,7 +161,7 @@ module _ (town : Town) (items : List Record) (node : ℕ) (point : Point) (unlab
       ap (broken_rule town s) is.is ∙ point_stands (sym (ap is_writable is.is) ∙ is.writable)
 
   -- the numbers of the record meet what the point meets
-  met_here : (row : Row) → MeetsOver town e x row → MeetsOver town e (number_at numbers) row
+  pub met_here : (row : Row) → MeetsOver town e x row → MeetsOver town e (number_at numbers) row
   met_here row met =
       subst (λ (z : ℤ). (pos e *ℤ row.right_side) ≤ℤ z)
       (sum_over-ext (λ arc. row.coef arc *ℤ pos (x arc)) (λ arc. row.coef arc *ℤ pos (number_at numbers arc)) (λ arc. ap (λ (n : ℕ). row.coef arc *ℤ pos n) (sym (same_here arc))) (legal_arcs town))

@@ -10,9 +10,10 @@ use Rattle.wrp_rules.specs.Nodes.{standing}
 use Rattle.wrp_rules.specs.Rules.{is_cut, number_at}
 use Rattle.wrp_laws.specs.Points.{MeetsOver, IsPointOf, price}
 use Rattle.wrp_progress.specs.Progress.{IsOpenIn, node_in}
+use Rattle.wrp_box.specs.Branching.{IsPart}
 use Rattle.wrp_licence.specs.Hard.{IsHard}
 use Rattle.wrp_licence.specs.Roundings.{MeetsRoundings}
-use Rattle.wrp_licence.specs.Licences.{IsPart, IsLicensed}
+use Rattle.wrp_licence.specs.Licences.{IsLicensed}
 
 -- the greatest number of cuts of a list, and of those of a round
 abbrev pub most_cuts : ℕ

@@ -1,12 +1,10 @@
 -- Hard nodes: what is read off the end of their run fits no record.
-use Rattle.std.specs.Prelude.{ℕ, ◌<◌, ◌⊎◌, ⊤, pos, List, length}
+use Rattle.std.specs.Prelude.{ℕ, ◌<◌, ◌⊎◌, pos, List, length}
 use Rattle.wrp_town.specs.declared.town.Town.{Town}
 use Rattle.wrp_rules.specs.Nodes.{Standing}
 use Rattle.wrp_tableau.specs.Systems.{System}
 use Rattle.wrp_simplex.specs.Steps.{IsFeasible}
 use Rattle.wrp_simplex.specs.Ends.{IsStuck, IsRefused, IsSpent}
-use Rattle.wrp_lp.specs.declared.lp.Lp.{Lp}
-use Rattle.wrp_lp.specs.declared.lp.Lp.TheVariants.{Optimal, Empty, Wide, Pivots}
 use Rattle.wrp_lp.specs.Reading.{MakesWhole, IsLeastDen, optimal_multiplier, empty_multiplier, multipliers_of}
 use Rattle.wrp_bound.specs.Mults.{most_denominator, FitABound}
 use Rattle.wrp_licence.specs.Runs.{row_numbers, most_pivots, IsRunAt, end_at}
@@ -44,10 +42,3 @@ pub record IsHard (town : Town) (s : Standing) (node : ℕ) : Type 0 where
   pub steps : List (ℕ × ℕ)
   pub run : IsRunAt town s node steps
   pub ends : EndsHard (end_at town s node steps) (row_numbers s) (length steps)
-
--- an answer of a relaxation gives no record of its node
-abbrev pub FitsNone : Lp → Type 0
-FitsNone (Optimal point mult table taken) = FitABound point.den mult → ⊥
-FitsNone (Empty mult taken) = FitABound (pos 1) mult → ⊥
-FitsNone (Wide taken) = ⊤
-FitsNone (Pivots taken) = ⊤

@@ -1,7 +1,6 @@
 -- Licensed Points: a split behind them cuts off an exact fractional point.
-use Rattle.std.specs.Prelude.{◌≡◌, ◌≢◌, ℕ, ◌%◌, true, List, None}
+use Rattle.std.specs.Prelude.{◌≡◌, ℕ, List, None}
 use Rattle.wrp_town.specs.declared.town.Town.{Town}
-use Rattle.wrp_town.specs.Arcs.{is_legal}
 use Rattle.wrp_rules.specs.declared.record.Record.{Record}
 use Rattle.wrp_rules.specs.declared.record.Record.TheVariants as records
 use Rattle.wrp_rules.specs.Rows.{odd_row}
@@ -15,15 +14,11 @@ use Rattle.wrp_rows.specs.declared.point.Point.{Point}
 use Rattle.wrp_odd.specs.Points.{denominator_of, numbers_of}
 use Rattle.wrp_progress.specs.Progress.{node_in}
 use Rattle.wrp_box.specs.Relaxing.{IsPointIn}
+use Rattle.wrp_box.specs.Branching.{IsPart}
 
 -- the numbers x over e meet the Odd row of every set that an odd number of demands cross
 abbrev pub MeetsOdds : Town → ℕ → (ℕ → ℕ) → Type 0
 MeetsOdds town e x = (set : List ℕ) → IsOddSet town set → MeetsOver town e x (odd_row town set)
-
--- the number of a legal arc isn't a multiple of the denominator
-pub record IsPart (town : Town) (den : ℕ) (x : ℕ → ℕ) (arc : ℕ) : Type 0 where
-  pub legal : is_legal town arc ≡ true
-  pub part : x arc % den ≢ 0
 
 -- a Point with these numbers may stand at the node; one of them isn't whole, and they meet every
 -- Conn row over sets that no required street crosses, and every Odd row

@@ -4,19 +4,18 @@
 //! Each function here does nothing: its clauses are the laws.
 #![tactic(auto)]
 
-ghost use Rattle.std.specs.Prelude.{◌≡◌, ◌⊎◌, ℕ, ℤ, pos, ◌<ℤ◌, ◌+◌, ◌*◌, ◌/◌, ◌^◌, ◌<◌, ◌≤◌, true, None, List, [], ◌∷◌, ◌++◌, length};
+ghost use Rattle.std.specs.Prelude.{◌≡◌, ℕ, ℤ, pos, ◌<ℤ◌, ◌+◌, ◌*◌, ◌/◌, ◌^◌, ◌<◌, ◌≤◌, true, None, List, [], ◌∷◌, ◌++◌, length};
 ghost use Rattle.wrp_town.specs.declared.town.Town.{Town};
 ghost use Rattle.wrp_town.specs.Arcs.{demands, legal_arcs};
 ghost use Rattle.wrp_rules.specs.declared.record.Record.{Record};
-ghost use Rattle.wrp_rules.specs.declared.record.Record.TheVariants.{Tour, Bound, Empty};
+ghost use Rattle.wrp_rules.specs.declared.record.Record.TheVariants.{Tour, Bound};
 ghost use Rattle.wrp_town.specs.declared.street.Step.{Step};
 ghost use Rattle.wrp_laws.specs.Points.{IsPointOf, price};
 ghost use Rattle.wrp_tableau.specs.declared.tableau.Tableau.{Tableau};
 ghost use Rattle.wrp_lp.specs.declared.lp.Lp.TheVariants as ends;
 ghost use Rattle.wrp_lp.specs.declared.lp.Lp.TheVariants.{Optimal};
 ghost use Rattle.wrp_writer.specs.Limits.{is_writable};
-ghost use Rattle.wrp_bound.specs.declared.mult.Mult.{Mult};
-ghost use Rattle.wrp_bound.specs.Mults.{without_zeros, IsInRanges, FitABound};
+ghost use Rattle.wrp_bound.specs.Mults.{without_zeros};
 ghost use Rattle.wrp_rules.specs.Nodes.{Node, Standing, standing, node_at, bound_at, empty_value, done};
 ghost use Rattle.wrp_rules.specs.Rules.{is_cut, number_at, rows_are_there, broken_rule};
 ghost use Rattle.wrp_rules.specs.Lists.{is_valid};
@@ -36,10 +35,12 @@ ghost use Rattle.wrp_round.specs.Optima.{IsOptimal, point_of, system_of};
 ghost use Rattle.wrp_round.specs.Broken.{AreFound};
 ghost use Rattle.wrp_round.specs.OddForms.{IsBrokenCut};
 ghost use Rattle.wrp_box.specs.Relaxing.{all_rows, IsRelaxed, IsPointIn};
+ghost use Rattle.wrp_box.specs.Branching.{IsPart};
+ghost use Rattle.wrp_box.specs.Records.{FitsNone};
 ghost use Rattle.wrp_licence.specs.Runs.{start_at, most_pivots, IsRunAt, IsEndedRun};
-ghost use Rattle.wrp_licence.specs.Hard.{IsHard, FitsNone};
+ghost use Rattle.wrp_licence.specs.Hard.{IsHard};
 ghost use Rattle.wrp_licence.specs.Roundings.{MeetsRoundings};
-ghost use Rattle.wrp_licence.specs.Licences.{IsPart, IsLicensed, IsExactPoint};
+ghost use Rattle.wrp_licence.specs.Licences.{IsLicensed, IsExactPoint};
 ghost use Rattle.wrp_licence.specs.Causes.{most_cuts, most_round_cuts, cuts_of, count_since, cuts_since_split, IsPointAt, IsCaused, AreCaused};
 
 /// A run owes no cause before its first record, and each further record owes its own alone.
@@ -121,16 +122,6 @@ pub fn exact_points_are_licensed()
         → IsLicensed town (standing town records) node (denominator_of point) (pairs_of point) }
     ensures numbers { (town : Town) (point : Point) (arc : ℕ)
         → number_at (pairs_of point) arc ≡ numbers_of point arc }
-{}
-
-/// Multipliers in their ranges make a record that may be written, and whether they fit can be told.
-pub fn multipliers_fit()
-    ensures bound { (node : ℕ) (m : Mult) → node < 2 ^ 63 → IsInRanges m
-        → is_writable (Bound node m.den m.mult) ≡ true }
-    ensures empty { (node : ℕ) (m : Mult) → node < 2 ^ 63 → IsInRanges m
-        → is_writable (Empty node m.mult) ≡ true }
-    ensures told { (den : ℤ) (mult : List (ℕ × ℤ))
-        → FitABound den mult ⊎ (FitABound den mult → ⊥) }
 {}
 
 /// The multipliers of an optimum, those that aren't 0, bound its node by what its point costs,

@@ -15,6 +15,7 @@ use Rattle.wrp_keep.specs.Keeps.{KeepState}
 use Rattle.wrp_engine.specs.declared.found.Found.{Found}
 use Rattle.wrp_engine.specs.declared.found.Found.TheVariants as founds
 use Rattle.wrp_engine.specs.Found.{end_of}
+use Rattle.wrp_engine.specs.Forced.{IsForced, above_done}
 use Rattle.wrp_report.specs.Texts.{text_of, report_lines, summary_lines}
 use Rattle.wrp_report.specs.Lists.{last_tour, answer_of, WalksTo}
 use Rattle.wrp_report.specs.declared.answer.Answer.{Answer}
@@ -67,6 +68,18 @@ pub record IsStatusOf
   pub is : status ≡ status_of end (done (standing town records))
   pub spent : IsSpent budget end (done (standing town records))
 
+-- no node is open at this end
+abbrev pub IsClosedEnd : End → Type 0
+IsClosedEnd (ends.Unfinished low high) = ⊥
+IsClosedEnd end = Unit {0}
+
+-- each record of the list has its cause, and they are few for the budget; a budget of
+-- `2 * (m + 1) ^ a` or more, for m demands and a legal arcs, is never spent
+pub record IsForcedSearch (town : Town) (budget : ℕ) (records : List Record) (end : End)
+    : Type 0 where
+  pub forced : IsForced town budget [] records
+  pub closed : above_done town ≤ budget → IsClosedEnd end
+
 -- ---- what is told of a search
 
 -- a keep with no log, before any record
@@ -82,6 +95,7 @@ status_found (founds.Unfinished low high before after) = Unfinished low high bef
 pub record FindsIn (town : Town) (budget : ℕ) (keep : KeepState) (found : Found) : Type 0 where
   pub same : keep.town ≡ town
   pub list : IsFound town keep.records (end_of found)
+  pub searched : IsForcedSearch town budget keep.records (end_of found)
   pub status : IsStatusOf town budget keep.records (end_of found) (status_found found)
 
 -- the list and the end were found, and the answer is theirs
@@ -93,6 +107,7 @@ pub record IsListed (town : Town) (records : List Record) (answer : Answer) : Ty
 pub record IsAnswer (town : Town) (budget : ℕ) (records : List Record) (solved : Solved)
     : Type 0 where
   pub listed : IsListed town records solved.answer
+  pub searched : IsForcedSearch town budget records solved.answer.end
   pub status : IsStatusOf town budget records solved.answer.end solved.status
 
 abbrev pub IsAnswerOfSome : Town → ℕ → Solved → Type 0
@@ -105,6 +120,7 @@ pub record AreTexts (town : Town) (budget : ℕ) (texts : Texts) : Type 0 where
   pub records : List Record
   pub end : End
   pub found : IsFound town records end
+  pub searched : IsForcedSearch town budget records end
   pub true : IsTrue town records end
   pub status : IsStatusOf town budget records end texts.status
   pub proof : texts.proof.items ≡ proof_of records end
@@ -134,6 +150,7 @@ pub record Solves (town : Town) (budget : ℕ) (status : Status) (old new : Outp
   pub records : List Record
   pub end : End
   pub found : IsFound town records end
+  pub searched : IsForcedSearch town budget records end
   pub true : IsTrue town records end
   pub reported : Reports town budget records end status old new
 
@@ -142,6 +159,7 @@ pub record IsSummary (town : Town) (budget : ℕ) (summary : SummaryText) : Type
   pub records : List Record
   pub end : End
   pub found : IsFound town records end
+  pub searched : IsForcedSearch town budget records end
   pub true : IsTrue town records end
   pub status : IsStatusOf town budget records end summary.status
   pub text : summary.text.items ≡ summary_of town records end
@@ -158,5 +176,6 @@ pub record Demonstrates (town : Town) (budget : ℕ) (status : Status) (old new 
   pub records : List Record
   pub end : End
   pub found : IsFound town records end
+  pub searched : IsForcedSearch town budget records end
   pub true : IsTrue town records end
   pub summarized : Summarizes town budget records end status old new

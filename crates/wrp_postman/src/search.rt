@@ -64,6 +64,7 @@ pub(crate) fn with_tour(
 }
 
 /// What a search finds. It has no log, so want of memory alone stops it.
+#[tactic(auto, using(crate::proofs::Solutions::whole_list))]
 fn found_in(
     alloc: Global,
     graph: &Graph<'_>,

@@ -1,4 +1,5 @@
 //! Records that are drawn, some of them valid.
+ghost use Rattle.std.specs.Prelude.{◌<◌, ◌^◌};
 
 use crate::draw::Draw;
 use crate::points::is_point;
@@ -17,6 +18,9 @@ use wrp_tree::Tree;
 
 /// The most pivots of a relaxation.
 const MOST_PIVOTS: u32 = 1000;
+
+/// The numbers of nodes are below this.
+const NODE_LIMIT: u64 = 1 << 63;
 
 /// The multipliers that are drawn.
 const MULTIPLIERS: [u64; 8] = [1, 1, 1, 2, 2, 3, 5, 1 << 21];
@@ -257,6 +261,9 @@ fn shown(
     sizes: Sizes,
 ) -> Result<Record, AllocError> {
     let node = sizes.open;
+    if node >= NODE_LIMIT {
+        return Ok(Record::Blind { node });
+    }
     let Some(lp) = relaxed(alloc, tree, node, MOST_PIVOTS)? else {
         return Ok(Record::Blind { node });
     };
@@ -275,7 +282,9 @@ fn point_shown(
     town: &Town,
     node: u64,
     lp: &Lp,
-) -> Result<Option<Record>, AllocError> {
+) -> Result<Option<Record>, AllocError>
+    requires { node < 2 ^ 63 }
+{
     let item = match lp {
         Lp::Optimal { point, .. } => record_of(alloc, town, node, point)?,
         _ => None,
@@ -292,11 +301,14 @@ fn record_of(
     town: &Town,
     node: u64,
     point: &Point,
-) -> Result<Option<Record>, AllocError> {
+) -> Result<Option<Record>, AllocError>
+    requires { node < 2 ^ 63 }
+{
     if !is_point(town, point) {
         return Ok(None);
     }
-    point_record(alloc, node, point)
+    let item = point_record(alloc, node, point)?;
+    Ok(Some(item))
 }
 
 /// A point with its last number dropped, or as it is.

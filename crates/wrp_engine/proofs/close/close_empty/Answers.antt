@@ -1,10 +1,12 @@
-use Rattle.std.proofs.Common.{◌≡◌, ◌∙◌, true, None, List, ℕ, rules, sym, subst}
+use Rattle.std.proofs.Common.{◌≡◌, ◌∙◌, true, None, List, ℕ, rules, refl, sym, subst, arith}
+use Rattle.std.specs.Prelude.{⊤}
 use Rattle.wrp_rules.specs.declared.record.Record.TheVariants.{Empty}
 use Rattle.wrp_writer.specs.Limits.{is_writable}
 use Rattle.wrp_progress.proofs.Branching.{emptied}
 use Rattle.wrp_keep.specs.Keeps.{broken_by}
 use Rattle.wrp_box.specs.Points.{alone}
 use Rattle.wrp_engine.specs.Searches.{search_of}
+use Rattle.wrp_engine.proofs.Adding.{adds_none, adds_free}
 use Rattle.wrp_engine.proofs.Shutting.{empty_writable, empty_next}
 use Rattle.wrp_engine.proofs.Ending.{no_labels, joined_done}
 use Rattle.wrp_engine.proofs.close.close_empty.Goals as goal
@@ -28,3 +30,9 @@ returns-clause-done g c =
     let mult = c.from_vec-mult.result in
     joined_done (search_of keep (g.D.Disk.meaning c.args.disk.now)) (search_of c.add.new.keep (g.D.Disk.meaning c.add.new.disk)) (Empty c.args.node mult) c.args.node c.add.result
     c.add.ensures.leaves c.add.ensures.joins (emptied keep.town keep.records c.args.node c.requires.opened mult)
+
+pub returns-in_err-vec-clause-adds : goal.returns-in_err-vec-clause-adds
+returns-in_err-vec-clause-adds g c = adds_none (λ _. ⊤) 1 0 c.args.keep.now c.args.keep.now refl
+
+pub returns-clause-adds : goal.returns-clause-adds
+returns-clause-adds g c = adds_free 0 c.args.keep.now c.add.new.keep (Empty c.args.node c.from_vec-mult.result) (omega arith) (λ entry added. record {}) c.add.ensures.at_most

@@ -1,7 +1,8 @@
-use Rattle.std.proofs.Common.{◌≡◌, ◌∙◌, ◌++◌, ◌∷◌, [], Option, Some, sym, subst, ap}
-use Rattle.std.specs.Prelude.{IfSome}
+use Rattle.std.proofs.Common.{◌≡◌, ◌∙◌, ◌++◌, ◌∷◌, [], Option, Some, sym, subst, ap, arith}
+use Rattle.std.specs.Prelude.{IfSome, ⊤}
 use Rattle.wrp_town.specs.declared.town.Town.{Town}
 use Rattle.wrp_rules.specs.declared.record.Record.{Record}
+use Rattle.wrp_rules.specs.declared.record.Record.TheVariants.{Apart}
 use Rattle.wrp_webs.specs.TownWebs.{IsBalanced}
 use Rattle.wrp_writer.specs.Limits.{is_writable}
 use Rattle.wrp_rows.specs.declared.point.Point.{Point}
@@ -12,6 +13,9 @@ use Rattle.wrp_conn.specs.Conns.{IsConnected, IsBrokenConn}
 use Rattle.wrp_point_tour.specs.PointTours.{IsTourPoint, CostsAtMost}
 use Rattle.wrp_keep.specs.Keeps.{broken_by}
 use Rattle.wrp_engine.specs.Searches.{search_of}
+use Rattle.wrp_engine.specs.Offers.{AddsAtMost}
+use Rattle.wrp_engine.specs.Closing.{apart_of}
+use Rattle.wrp_engine.proofs.Adding.{adds_free, where_weaker}
 use Rattle.wrp_engine.proofs.Separating.{apart_written, apart_next, apart_done}
 use Rattle.wrp_engine.proofs.Ending.{no_labels, joined_done, only_serves, tour_point, tour_ends}
 use Rattle.wrp_engine.proofs.close.close_met.Goals as goal
@@ -64,3 +68,13 @@ returns-in-Some-clause-done g c =
     c.add.ensures.leaves c.add.ensures.joins
     (subst (λ (r : Record). IsDoneIn keep.town (keep.records ++ r ∷ []) c.args.node) (sym c.apart_of.ensures)
     (apart_done keep c.args.node point c.requires.point cut broken c.requires.opened))
+
+pub returns-in-Some-clause-adds : goal.returns-in-Some-clause-adds
+returns-in-Some-clause-adds g c =
+    let keep = c.args.keep.now in
+    let cut = c.in-Some.cut in
+    let broken = found_cut keep.town c.rows.result.now.town c.args.point.now cut c.in_ok-cut.field-0 (c.rows.ensures.town ∙ c.tree.ensures.town) c.in-Some.is c.in_ok-cut.ensures.some in
+    let is : c.apart_of.result ≡ Apart c.args.node broken.r1 broken.r2 broken.set = c.apart_of.ensures ∙ ap (λ (r : Record). apart_of c.args.node r) broken.is in
+    where_weaker (λ _. ⊤) 1 2 0 1 keep c.add.new.keep (omega arith) (omega arith)
+    (adds_free 0 keep c.add.new.keep (Apart c.args.node broken.r1 broken.r2 broken.set) (omega arith) (λ entry added. record {})
+    (subst (λ (r : Record). AddsAtMost r keep c.add.new.keep) is c.add.ensures.at_most))

@@ -1,14 +1,19 @@
-use Rattle.std.proofs.Common.{◌≡◌, true}
-use Rattle.std.proofs.lemmas.List.Elements.{All-take, All-same}
-use Rattle.wrp_writer.specs.Limits.{is_writable}
+use Rattle.std.proofs.Common.{sym, ◌∙◌}
+use Rattle.std.proofs.lemmas.Result.{on_ok_weaker}
 use Rattle.wrp_round.specs.Optima.{point_of}
-use Rattle.wrp_engine.proofs.Broken.{roundings_written, appended_written}
+use Rattle.wrp_engine.proofs.Broken.{roundings_useful, taken_useful, appended_useful, appended_first, appended_behind, nothing_taken, none_named}
 use Rattle.wrp_engine.proofs.cuts.add_roundings.Goals as goal
 
 pub returns : goal.returns
 returns c =
-    let s = c.requires.rows.0 in
+    let pool = c.args.rows.now in
+    let point = point_of c.args.lp.now in
     let found = c.in_ok-found.found.items in
-    let written = roundings_written c.args.rows.now.town s (point_of c.args.lp.now) found (c.in_ok-found.ensures.broken s c.requires.rows.1) in
-    appended_written c.append.result c.args.cuts.now.items c.truncate.new.self.items c.append.new.self.items c.append.ensures.items c.requires.writable
-    (All-same (λ item. is_writable item ≡ true) c.truncate.new.self.items _ c.truncate.ensures.items (All-take (λ item. is_writable item ≡ true) 2 found written))
+    let taken = c.truncate.new.self.items in
+    let useful = taken_useful pool point taken found 2 c.truncate.ensures.items (roundings_useful pool point found c.in_ok-found.ensures.broken) in
+    record {
+      useful = appended_useful pool point c.append.result c.args.cuts.now.items taken c.append.new.self.items c.append.ensures.items c.requires.useful useful;
+      old = appended_first c.append.result c.args.cuts.now.items taken c.append.new.self.items c.append.ensures.items;
+      named = on_ok_weaker c.append.result (λ behind none. none_named pool c.args.chosen.now c.args.lp.now found c.in_ok-found.ensures.named (nothing_taken found 1 (sym c.truncate.ensures.items ∙ behind none)))
+          (appended_behind c.append.result c.args.cuts.now.items taken c.append.new.self.items c.append.ensures.items);
+    }
