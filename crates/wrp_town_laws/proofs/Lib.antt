@@ -1,0 +1,5 @@
+pub mod Lists
+pub mod OneWay
+pub mod Demands
+pub mod MoreStreets
+mod RowTowns

@@ -1,0 +1,16 @@
+mod Places
+mod Runs
+mod BigSteps
+mod OwnDemands
+mod DroppedTours
+mod Widened
+mod Stars
+mod TurnTowns
+mod StepPairs
+mod StreetDemands
+mod Collected
+mod BanRows
+mod TurnNames
+mod TurnStreets
+mod Causes
+mod BanTexts
