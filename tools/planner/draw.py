@@ -36,11 +36,10 @@ def write(output: Path, streets: list[Street], tour: Tour, places: Optional[Plac
         output.write_text(TRACKS[kind](streets, tour, places), encoding="utf-8")
         return
     lines = lines_of(streets, places)
-    figure = figure_of(streets, tour, lines)
     if kind in PICTURES:
-        save_picture(figure, output, kind[1:])
+        save_picture(figure_of(streets, tour, lines), output, kind[1:])
     else:
-        output.write_text(page_of(streets, tour, lines, places, figure), encoding="utf-8")
+        output.write_text(page_of(streets, tour, lines, places), encoding="utf-8")
 
 
 def run(options: argparse.Namespace) -> None:

@@ -52,7 +52,7 @@ def town_of(path: Path, need: set[str], within: Optional[Box], costs: Costs) -> 
     """The network of the map; what is left out of it is said."""
     plan = read_map(path, need, within)
     if plan.missing:
-        say(f"the map lacks {plan.missing} nodes of its ways: these end there")
+        say(f"nodes of ways that the map lacks (the ways end there): {plan.missing}")
     pieces = pieces_of(plan, need, costs)
     if not any(piece.need for piece in pieces):
         raise Trouble(f"{path} has no street of the classes {','.join(sorted(need))}")

@@ -3,7 +3,9 @@
 import math
 from collections import Counter
 from dataclasses import dataclass
+from io import BytesIO
 from pathlib import Path
+from typing import Union
 
 import matplotlib
 
@@ -19,7 +21,8 @@ from layout import Line, driven_line, point_along
 from report import Step, Tour
 from town import Street
 
-WIDTH = 1200
+WIDTH, PAGE_WIDTH = 1200, 850
+"""Points. On a page the list of the turns stands beside the picture."""
 LEAST_HEIGHT, MOST_HEIGHT = 500, 1500
 POINTS_AN_INCH = 72
 SERVED, CONNECTING = "#a8cbe8", "#dcdcdc"
@@ -29,7 +32,7 @@ ARROW = Outline([(-0.9, -0.7), (1.1, 0.0), (-0.9, 0.7), (-0.45, 0.0), (-0.9, -0.
 
 @dataclass(frozen=True)
 class Pass:
-    """A step of the tour, by its number from 1, and its place among the passes of its street."""
+    """A step of the tour, by its number from 1, and the share of its way where its arrow stands."""
 
     number: int
     step: Step
@@ -42,7 +45,7 @@ def passes_of(tour: Tour) -> list[Pass]:
     seen: Counter[int] = Counter()
     result = []
     for number, step in enumerate(tour.steps, start=1):
-        share = (seen[step.street] + 0.5) / total[step.street]
+        share = (seen[step.street] + 0.4) / total[step.street]
         result.append(Pass(number, step, share if step.ahead else 1 - share))
         seen[step.street] += 1
     return result
@@ -53,8 +56,8 @@ def title_of(tour: Tour) -> str:
     return f"Tour of cost {tour.cost} ({proved}), {len(tour.steps)} steps, deadhead {tour.deadhead():.1f} %"
 
 
-def figure_of(streets: list[Street], tour: Tour, lines: list[Line]) -> Figure:
-    figure, axes = pyplot.subplots(figsize=size_of(lines))
+def figure_of(streets: list[Street], tour: Tour, lines: list[Line], width: int = WIDTH) -> Figure:
+    figure, axes = pyplot.subplots(figsize=size_of(lines, width))
     axes.set_aspect("equal")
     axes.set_axis_off()
     axes.margins(0.02)
@@ -62,17 +65,17 @@ def figure_of(streets: list[Street], tour: Tour, lines: list[Line]) -> Figure:
     for each in passes_of(tour):
         draw_pass(axes, each, driven_line(lines, each.step))
     axes.set_title(title_of(tour), fontsize=15)
-    axes.legend(handles=legend(), loc="upper center", bbox_to_anchor=(0.5, 0.0), ncol=4, frameon=False, fontsize=11)
+    axes.legend(handles=legend(), loc="upper center", bbox_to_anchor=(0.5, 0.0), ncol=4, frameon=False, fontsize=10)
     figure.tight_layout(pad=0.4)
     return figure
 
 
-def size_of(lines: list[Line]) -> tuple[float, float]:
-    """Inches: as wide as WIDTH, and as high as the town asks for."""
+def size_of(lines: list[Line], width: int) -> tuple[float, float]:
+    """Inches: so many points wide, and as high as the town asks for."""
     points = [point for line in lines for point in line] or [(0.0, 0.0)]
-    width, height = (max(values) - min(values) for values in zip(*points))
-    wanted = WIDTH * height / width + 70 if width > 0 else MOST_HEIGHT
-    return WIDTH / POINTS_AN_INCH, min(max(wanted, LEAST_HEIGHT), MOST_HEIGHT) / POINTS_AN_INCH
+    broad, tall = (max(values) - min(values) for values in zip(*points))
+    wanted = width * tall / broad + 70 if broad > 0 else MOST_HEIGHT
+    return width / POINTS_AN_INCH, min(max(wanted, LEAST_HEIGHT), MOST_HEIGHT) / POINTS_AN_INCH
 
 
 def draw_streets(axes: Axes, streets: list[Street], tour: Tour, lines: list[Line]) -> None:
@@ -87,8 +90,7 @@ def draw_streets(axes: Axes, streets: list[Street], tour: Tour, lines: list[Line
 def draw_pass(axes: Axes, each: Pass, line: Line) -> None:
     """The driven line, an arrow on it, and the number of the step on its right side."""
     color = SERVING if each.step.serves else DEADHEAD
-    share = each.share if each.step.ahead else 1 - each.share
-    point, angle = point_along(line, share)
+    point, angle = point_along(line, each.share)
     right = math.radians(angle - 90)
     marker = MarkerStyle(ARROW).rotated(deg=angle)
     axes.plot(*line.T, color=color, linewidth=0.9, zorder=2, gid=f"line-{each.number}")
@@ -108,9 +110,9 @@ def legend() -> list[Line2D]:
     ]
 
 
-def save_picture(figure: Figure, path: Path, kind: str) -> None:
+def save_picture(figure: Figure, file: Union[Path, BytesIO], kind: str) -> None:
     """The same figure gives the same bytes at each run."""
     with matplotlib.rc_context({"svg.hashsalt": "kuypasha", "svg.fonttype": "none", "font.family": "sans-serif"}):
         metadata = {"Date": None, "Creator": None} if kind == "svg" else {"Software": None}
-        figure.savefig(path, format=kind, dpi=2 * POINTS_AN_INCH, metadata=metadata)
+        figure.savefig(file, format=kind, dpi=2 * POINTS_AN_INCH, metadata=metadata)
     pyplot.close(figure)
