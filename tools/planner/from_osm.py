@@ -16,7 +16,8 @@ from ways import SPEEDS, Box, read_map
 def arguments() -> argparse.Namespace:
     parser = argparse.ArgumentParser(description=__doc__)
     parser.add_argument("map", metavar="MAP", type=Path, help="an extract: .osm, .osm.gz or .osm.pbf")
-    parser.add_argument("--need", required=True, type=classes, help="classes to be served: residential,living_street,..")
+    parser.add_argument("--need", required=True, type=classes,
+                        help="the classes to be served: residential,living_street,..")  # fmt: skip
     parser.add_argument("--slope", metavar="FILE", type=Path, help="a table lon,lat,height: uphill costs more")
     parser.add_argument("--bbox", metavar="W,S,E,N", type=box, help="only this box; written --bbox=W,S,E,N")
     parser.add_argument("--metres", action="store_true", help="costs are metres and not seconds")
@@ -73,8 +74,8 @@ def part_of(town: Network, number: Optional[int]) -> Network:
     if number is None:
         junctions, streets, demands = sizes(town)
         raise Trouble(
-            f"the map gives {junctions} junctions, {streets} streets and {demands} demands, and the program takes up to "
-            f"{MOST_JUNCTIONS}, {MOST_STREETS} and {MOST_DEMANDS}: "
+            f"the map gives {junctions} junctions, {streets} streets and {demands} demands, "
+            f"and the program takes up to {MOST_JUNCTIONS}, {MOST_STREETS} and {MOST_DEMANDS}: "
             f"name one of its {len(several)} parts with --part, or a smaller --bbox"
         )
     if not 1 <= number <= len(several):

@@ -9,6 +9,7 @@ from town import Street, Trouble, junctions_of
 END = re.compile(r"optimal (\d+)|unfinished (\d+) (\d+)")
 SIZES = re.compile(r"streets (\d+) junctions (\d+) .*")
 STEP = re.compile(r"(\d+)([+-])")
+WAYS_TO_SERVE = {"no": [], "yes": ["either"], "forward": ["ahead"], "backward": ["back"], "both": ["ahead", "back"]}
 
 
 @dataclass(frozen=True)
@@ -94,19 +95,15 @@ def check_walk(path: Path, driven: list[tuple[int, bool]], streets: list[Street]
     ends = [ends_of(streets[street], ahead) for street, ahead in driven]
     for number, (before, after) in enumerate(zip(ends[-1:] + ends, ends), start=1):
         if before[1] != after[0]:
-            raise Trouble(f"{path} has no tour: step {number} begins at {after[0]}, and the one before ends at {before[1]}")
+            raise Trouble(f"{path} has no tour: step {number} begins at {after[0]}, the one before ends at {before[1]}")
 
 
 def steps_of(driven: list[tuple[int, bool]], streets: list[Street]) -> list[Step]:
     """The steps of the tour. A need is served by the first pass that can serve it."""
-    waiting = {(number, way) for number, street in enumerate(streets) for way in ways_to_serve(street)}
+    waiting = {(number, way) for number, street in enumerate(streets) for way in WAYS_TO_SERVE[street.need]}
     steps = []
     for street, ahead in driven:
         served = {(street, "either"), (street, "ahead" if ahead else "back")} & waiting
         waiting -= served
         steps.append(Step(street, ahead, cost_of(streets[street], ahead), bool(served)))
     return steps
-
-
-def ways_to_serve(street: Street) -> list[str]:
-    return {"no": [], "yes": ["either"], "forward": ["ahead"], "backward": ["back"], "both": ["ahead", "back"]}[street.need]

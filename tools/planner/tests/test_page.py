@@ -23,10 +23,8 @@ def page(tmp_path_factory: pytest.TempPathFactory) -> Path:
 def opened(page: Path, fragment: str) -> str:
     """What the page has become after it was opened and its scripts have run."""
     command = ["chromium", "--headless", "--no-sandbox", "--disable-gpu", f"--user-data-dir={page.parent / 'profile'}"]
-    run = subprocess.run(
-        [*command, "--dump-dom", page.as_uri() + fragment], capture_output=True, encoding="utf-8", timeout=60, check=True
-    )
-    return run.stdout
+    command += ["--dump-dom", page.as_uri() + fragment]
+    return subprocess.run(command, capture_output=True, encoding="utf-8", timeout=60, check=True).stdout
 
 
 def classes(text: str, name: str) -> set[str]:
