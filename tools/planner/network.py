@@ -152,9 +152,13 @@ def chain(first: Piece, second: Piece, node: int) -> Optional[Piece]:
         first,
         nodes=first.nodes + second.nodes[1:],
         metres=first.metres + second.metres,
-        forward=None if first.forward is None else first.forward + second.forward,
-        backward=None if first.backward is None else first.backward + second.backward,
+        forward=total(first.forward, second.forward),
+        backward=total(first.backward, second.backward),
     )
+
+
+def total(first: Optional[float], second: Optional[float]) -> Optional[float]:
+    return None if first is None or second is None else first + second
 
 
 def kind_of(piece: Piece) -> tuple[str, bool, bool, bool]:
