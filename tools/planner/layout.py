@@ -19,6 +19,8 @@ Line = numpy.ndarray
 
 
 def lines_of(streets: list[Street], places: Optional[Places]) -> list[Line]:
+    if not streets:
+        raise Trouble("there is no street to draw")
     return laid_out(streets) if places is None else placed(streets, places)
 
 

@@ -38,15 +38,14 @@ class Tour:
 
 def read_tour(path: Path, streets: list[Street]) -> Tour:
     try:
-        lines = path.read_text(encoding="utf-8").splitlines()
+        lines = path.read_text(encoding="utf-8").removesuffix("\n").split("\n")
     except (OSError, UnicodeDecodeError) as error:
         raise Trouble(f"{path} can't be read as a report: {error}") from error
-    first = lines[0] if lines else ""
-    if first == "infeasible":
+    if lines[0] == "infeasible":
         raise Trouble(f"{path} says that there is no tour")
-    end = END.fullmatch(first)
+    end = END.fullmatch(lines[0])
     if not end:
-        raise Trouble(f"{path} isn't a report of the word solve: its first line is '{first}'")
+        raise Trouble(f"{path} isn't a report of the word solve: its first line is '{lines[0]}'")
     low, cost = int(end[1] or end[2]), int(end[1] or end[3])
     check_sizes(path, lines, streets)
     driven = [driven_at(lines[row], f"{path} line {row + 1}", streets) for row in range(4, len(lines))]

@@ -105,7 +105,8 @@ def add_place(places: Places, geometry: dict, properties: dict) -> None:
         places.junctions[properties["junction"]] = point_of(geometry["coordinates"])
     elif geometry["type"] == "LineString" and "street" in properties:
         key = properties["street"], properties["from"], properties["to"]
-        places.lines[key] = [point_of(pair) for pair in geometry["coordinates"]]
+        first, second, *others = geometry["coordinates"]
+        places.lines[key] = [point_of(pair) for pair in (first, second, *others)]
         places.titles[key] = properties.get("name", properties["street"])
 
 

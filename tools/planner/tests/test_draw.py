@@ -13,6 +13,7 @@ from town import Street, read_places, read_table
 from turns import turns_of
 
 TABLE, REPORT, PLACES = (SMALL.with_suffix(ending) for ending in (".csv", ".report", ".geojson"))
+NO_STEPS = "optimal 0\nstreets {} junctions {} required 0 class empty\nnodes 1 done 1 cuts 0 blind 0\nsteps 0\n"
 GPX = {"gpx": "http://www.topografix.com/GPX/1/1"}
 
 
@@ -103,6 +104,20 @@ def test_an_unfinished_report_names_its_bound(tmp_path: Path) -> None:
     assert "none is cheaper than 240" in draw(tmp_path / "tour.svg", TABLE, report, PLACES)
 
 
+def test_a_name_may_hold_what_ends_a_line_elsewhere(tmp_path: Path) -> None:
+    for source, copy in ((TABLE, "streets.csv"), (REPORT, "report.txt")):
+        text = source.read_text(encoding="utf-8").replace("Pound Court", "Pound\u2028Court")
+        (tmp_path / copy).write_text(text, encoding="utf-8")
+    assert len(read_tour(tmp_path / "report.txt", read_table(tmp_path / "streets.csv")).steps) == 17
+
+
+def test_a_tour_without_steps_is_a_page_too(tmp_path: Path) -> None:
+    table, report = tmp_path / "streets.csv", tmp_path / "report.txt"
+    table.write_text("street,from,to,forward,backward,need\na,b,c,1,1,no\n")
+    report.write_text(NO_STEPS.format(1, 2))
+    assert "Tour of cost 0 (none is cheaper), 0 steps" in draw(tmp_path / "tour.html", table, report)
+
+
 def test_all_tables_of_the_examples_are_read() -> None:
     tables = sorted(EXAMPLES.glob("*/streets.csv"))
     assert len(tables) >= 5 and all(read_table(table) for table in tables)
@@ -154,6 +169,11 @@ def test_steps_that_do_not_join_are_refused(tmp_path: Path) -> None:
 def test_other_faults_are_told(tmp_path: Path) -> None:
     assert "ends in none of" in refused(tmp_path / "tour.pdf", TABLE, REPORT)
     assert "needs the places" in refused(tmp_path / "tour.gpx", TABLE, REPORT)
+    empty = tmp_path / "empty.csv"
+    empty.write_text("street,from,to,forward,backward,need\n")
+    none = tmp_path / "none.txt"
+    none.write_text(NO_STEPS.format(0, 0))
+    assert "no street to draw" in refused(tmp_path / "tour.svg", empty, none)
     assert "isn't a street table" in refused(tmp_path / "tour.svg", REPORT, REPORT)
     assert "can't be read as a report" in refused(tmp_path / "tour.svg", TABLE, tmp_path / "none")
     assert "isn't a GeoJSON file" in refused(tmp_path / "tour.svg", TABLE, REPORT, TABLE)

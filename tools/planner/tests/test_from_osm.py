@@ -70,8 +70,8 @@ def test_only_drivable_streets_are_there_and_only_the_named_classes_are_served(s
 
 def test_what_cannot_be_reached_is_left_out_and_counted(tmp_path: Path) -> None:
     run = run_tool("from_osm.py", SMALL, "--need", NEED, "--places", tmp_path / "places.geojson")
-    assert "Depot Exit" not in run.stdout
-    assert "left out that can't be reached and left: 1, to be served: 1" in run.stderr
+    assert "Depot Exit" not in run.stdout and "Island Road" not in run.stdout
+    assert "left out that can't be reached and left: 2, to be served: 2" in run.stderr
 
 
 def test_costs_are_seconds_by_the_speed_of_the_street(streets: dict[str, Street]) -> None:
