@@ -4,6 +4,7 @@ import json
 from pathlib import Path
 from xml.etree import ElementTree
 
+import numpy
 import pytest
 
 from conftest import EXAMPLE, EXAMPLES, SMALL, run_tool
@@ -71,8 +72,10 @@ def test_without_places_a_layout_is_drawn(tmp_path: Path) -> None:
 def test_a_layout_keeps_apart_streets_that_join_the_same_junctions() -> None:
     streets = [Street(name, "a", end, 1, 1, "yes") for name, end in (("p", "b"), ("q", "b"), ("loop", "a"))]
     straight, bent, loop = laid_out(streets)
-    assert len(straight) == 2 and len(bent) > 2 and len(loop) > 2
+    apart = numpy.linalg.norm(bent[len(bent) // 2] - straight.mean(axis=0))
+    assert apart == pytest.approx(0.2 * numpy.linalg.norm(straight[1] - straight[0]))
     assert loop[0] == pytest.approx(loop[-1]) and loop[0] == pytest.approx(straight[0])
+    assert numpy.ptp(loop, axis=0) == pytest.approx([30, 30], abs=1)
 
 
 def test_geojson_has_a_line_for_each_step(tmp_path: Path, streets: list[Street], tour: Tour) -> None:
